@@ -1,0 +1,10 @@
+// What every other part rests on: the refusals, the spans that the rules name, and the classes of bytes.
+pub mod ascii;
+pub mod displays;
+pub mod lent;
+pub mod refusals;
+pub mod spans;
+
+pub use refusals::Fault;
+pub use spans::Span;
+pub use spans::SpanKind;
