@@ -17,7 +17,8 @@ use Rattle.std.specs.shelf.Lists.{All}
 use Rattle.text.specs.declared.refusals.Fault.{Fault}
 use Rattle.text.specs.declared.refusals.Fault.the-variants.{NoteTooLong, BufferTooShort}
 use Rattle.text.specs.declared.spans.Span.{Span}
-use Rattle.rules.specs.Notes.{too-long, note-addresses, note-answer, note-written}
+use Rattle.text.specs.Notes.{too-long}
+use Rattle.rules.specs.Notes.{note-addresses, note-answer, note-written}
 use Rattle.rules.specs.MailLaws.{Address, Each-is-an-address}
 use Rattle.rules.proofs.Lines.{note-few}
 use Rattle.addresses.specs.Report.{Within, refusal-line, address-lines, summary, report}

@@ -12,7 +12,8 @@ use Rattle.text.specs.declared.refusals.Fault.the-variants.{NoteTooLong}
 use Rattle.text.specs.declared.spans.Span.{Span}
 use Rattle.text.specs.Bytes.{part}
 use Rattle.text.specs.Shown.{refusal-shown, kind-shown}
-use Rattle.rules.specs.Notes.{too-long, note-addresses}
+use Rattle.text.specs.Notes.{too-long}
+use Rattle.rules.specs.Notes.{note-addresses}
 
 -- x lies within the note
 abbrev pub Within : List ℕ → Span → Type 0

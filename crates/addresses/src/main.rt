@@ -2,10 +2,10 @@
 mod report;
 
 use report::make_report;
-use rules::notes::LONGEST_NOTE;
 use std::io;
 use std::io::Read;
 use std::io::Write;
+use text::notes::LONGEST_NOTE;
 
 fn main(rt: LibcRuntime) -> io::Result<()> {
     let mut note = Vec::new(rt.alloc());

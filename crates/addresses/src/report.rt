@@ -7,7 +7,6 @@ ghost use Rattle.std.specs.Of.String.{string-bytes};
 ghost use Rattle.std.specs.Vec.{made};
 ghost use Rattle.std.specs.shelf.Lists.{All};
 ghost use Rattle.addresses.specs.Report.{Within, refusal-line, noun, head, address-line, address-lines, summary, report};
-use rules::notes::LONGEST_NOTE;
 use rules::notes::find_note_addresses;
 use std::alloc::AllocError;
 use std::alloc::Global;
@@ -16,6 +15,7 @@ use text::Span;
 use text::SpanKind;
 use text::displays::FaultDisplay;
 use text::displays::SpanKindDisplay;
+use text::notes::LONGEST_NOTE;
 
 // No note has more addresses than bytes.
 const NO_SPAN: Span = Span {

@@ -16,9 +16,10 @@ use Rattle.std.specs.declared.result.Result.{Result}
 use Rattle.std.specs.declared.result.Result.the-variants.{Ok, Err}
 use Rattle.text.specs.declared.refusals.Fault.{Fault}
 use Rattle.text.specs.declared.refusals.Fault.the-variants.{BufferTooShort, NoteTooLong}
+use Rattle.text.specs.Notes.{too-long, checked-length}
 use Rattle.text.specs.Lent.{written-count, overwritten}
 use Rattle.text.specs.declared.spans.Span.{Span}
-use Rattle.rules.specs.Notes.{moved, note-addresses, too-long, checked-length, note-answer, note-written}
+use Rattle.rules.specs.Notes.{moved, note-addresses, note-answer, note-written}
 
 -- one more: x is the span of rank k, and the data begins at byte base of the note
 pub write-more : (out : List Span) (first base : ℕ) (xs : List Span) (k : ℕ) (x : Span) → first + length xs ≤ length out → k < length xs → getD xs k x ≡ x → set (paste out first (map (moved base) xs) k) (first + k) (moved base x) ≡ paste out first (map (moved base) xs) (k + 1)

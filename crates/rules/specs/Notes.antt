@@ -6,11 +6,12 @@ use Prim.Native.Nat.{ℕ, zero, suc, _+_}
 use lib.Dec.{ltb}
 use lib.ListN.{length, getD}
 use Rattle.std.specs.declared.result.Result.{Result}
-use Rattle.std.specs.declared.result.Result.the-variants.{Ok, Err}
+use Rattle.std.specs.declared.result.Result.the-variants.{Err}
 use Rattle.text.specs.declared.refusals.Fault.{Fault}
 use Rattle.text.specs.declared.refusals.Fault.the-variants.{NoteTooLong}
 use Rattle.text.specs.declared.spans.Span.{Span}
 use Rattle.text.specs.Bytes.{among, part, first}
+use Rattle.text.specs.Notes.{too-long}
 use Rattle.text.specs.Lent.{written-count, overwritten}
 use Rattle.rules.specs.Mail.{addresses}
 
@@ -37,12 +38,6 @@ lines-from s (suc n) i = cond (ltb i (length s)) (line-addresses s i ++ lines-fr
 -- no note has more lines with bytes in them than it has bytes
 abbrev pub note-addresses : List ℕ → List Span
 note-addresses s = lines-from s (length s) 0
-
-abbrev pub too-long : List ℕ → Bool
-too-long s = ltb 1024 (length s)
-
-abbrev pub checked-length : List ℕ → Result ℕ Fault
-checked-length s = cond (too-long s) (Err NoteTooLong) (Ok (length s))
 
 -- what the call answers, and what the lent slice holds then
 abbrev pub note-answer : List ℕ → List Span → Result ℕ Fault

@@ -5,15 +5,13 @@ ghost use lib.ListN.{length};
 ghost use Rattle.text.specs.Lent.{overwritten};
 ghost use Rattle.rules.specs.InTurn.{In-text-order};
 ghost use Rattle.rules.specs.MailLaws.{Each-is-an-address};
-ghost use Rattle.rules.specs.Notes.{line-ending-byte, line-stop, note-addresses, checked-length, note-answer, note-written};
+ghost use Rattle.rules.specs.Notes.{line-ending-byte, line-stop, note-addresses, note-answer, note-written};
 use crate::addresses::count_addresses;
 use crate::addresses::write_addresses;
 use text::Fault;
 use text::Span;
 use text::lent::check_room;
-
-// The most bytes that a note has.
-pub const LONGEST_NOTE: usize = 1024;
+use text::notes::check_length;
 
 // Writes the addresses in the data of each line to the front of `out`, in text order, and answers how many they are.
 pub fn find_note_addresses(note: &[u8], out: &mut [Span]) -> Result<usize, Fault>
@@ -26,16 +24,6 @@ pub fn find_note_addresses(note: &[u8], out: &mut [Span]) -> Result<usize, Fault
     let count = check_room(count_lines(note), out.len())?;
     write_lines(note, out);
     Ok(count)
-}
-
-// Refuses what is too long for a note; else answers its length.
-pub fn check_length(note: &[u8]) -> Result<usize, Fault>
-    ensures { λ r. ⌜ r ≡ checked-length (now (note .entry)) ⌝ }
-{
-    if note.len() > LONGEST_NOTE {
-        return Err(Fault::NoteTooLong);
-    }
-    Ok(note.len())
 }
 
 fn count_lines(note: &[u8]) -> usize

@@ -23,13 +23,13 @@ mod tests {
     use rules::examples::example_address;
     use rules::examples::example_data;
     use rules::mail::next_address;
-    use rules::notes::LONGEST_NOTE;
     use rules::notes::find_note_addresses;
     use std::test::*;
     use text::Fault;
     use text::Span;
     use text::SpanKind;
     use text::displays::FaultDisplay;
+    use text::notes::LONGEST_NOTE;
     use text::refusals::FaultDebug;
     use text::refusals::FaultPartialEq;
     use text::spans::SpanDebug;

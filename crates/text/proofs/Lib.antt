@@ -1,3 +1,4 @@
 pub mod Firsts
 pub mod Runs
+pub mod Walks
 pub mod Words

@@ -2,9 +2,12 @@
 pub mod ascii;
 pub mod displays;
 pub mod lent;
+pub mod notes;
+pub mod places;
 pub mod refusals;
 pub mod spans;
 
+pub use places::Point;
 pub use refusals::Fault;
 pub use spans::Span;
 pub use spans::SpanKind;
