@@ -1,5 +1,12 @@
-pub mod Turns
 pub mod AddressParts
-pub mod Writes
-pub mod Lines
+pub mod Cuts
+pub mod DomainMarks
+pub mod KindsAtPlaces
 pub mod LineLaws
+pub mod Lines
+pub mod SpanLaws
+pub mod Trails
+pub mod Tried
+pub mod Turns
+pub mod WebParts
+pub mod Writes

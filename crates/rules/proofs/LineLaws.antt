@@ -82,15 +82,15 @@ module _ (s : List ℕ) (i e : ℕ) (le : e ≤ length s) where
 
 -- ---- lists of spans in text order
 
-order-moved : (i c : ℕ) (xs : List Span) → In-text-order c xs → In-text-order (i + c) (map (moved i) xs)
+pub order-moved : (i c : ℕ) (xs : List Span) → In-text-order c xs → In-text-order (i + c) (map (moved i) xs)
 order-moved i c [] h = tt
 order-moved i c (x ∷ xs) h = ((omega (arith, h .0 .0), omega (arith, h .0 .1)), order-moved i (x .to) xs (h .1))
 
-order-lower : (c d : ℕ) (xs : List Span) → c ≤ d → In-text-order d xs → In-text-order c xs
+pub order-lower : (c d : ℕ) (xs : List Span) → c ≤ d → In-text-order d xs → In-text-order c xs
 order-lower c d [] le h = tt
 order-lower c d (x ∷ xs) le h = ((omega (arith, h .0 .0), h .0 .1), h .1)
 
-order-append : (c d : ℕ) (xs ys : List Span) → c ≤ d → In-text-order c xs → All (λ x. x .to ≤ d) xs → In-text-order d ys → In-text-order c (xs ++ ys)
+pub order-append : (c d : ℕ) (xs ys : List Span) → c ≤ d → In-text-order c xs → All (λ x. x .to ≤ d) xs → In-text-order d ys → In-text-order c (xs ++ ys)
 order-append c d [] ys le h most k = order-lower c d ys le k
 order-append c d (x ∷ xs) ys le h most k = (h .0, order-append (x .to) d xs ys (most .0) (h .1) (most .1) k)
 

@@ -1,5 +1,10 @@
+pub mod Examples
 pub mod InTurn
 pub mod Mail
 pub mod MailExamples
 pub mod MailLaws
 pub mod Notes
+pub mod SegmentLaws
+pub mod Segments
+pub mod Web
+pub mod WebLaws

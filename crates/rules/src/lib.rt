@@ -3,3 +3,4 @@ pub mod addresses;
 pub mod examples;
 pub mod mail;
 pub mod notes;
+pub mod web;

@@ -185,3 +185,12 @@ target-refused s p i n f len off =
           (and-from (leb (p .index) i) (leb i (length s)) (le-leb (p .index) i low) (le-leb i (length s) high))
           (place-within s p at (omega (arith, w .1 .0))));
     }
+
+-- an accepted shift leads to the byte asked for
+index-as : (s : List ℕ) (p q : Point) (i : ℕ) (long fine : Bool) → _≡_ {A = Result Point Fault} (Ok q) (cond long (Err NoteTooLong) (moved-on (cond fine (Ok tt) (Err TargetOutOfRange)) (shifted s p i))) → q .index ≡ i
+index-as s p q i true fine e = let z : _≡_ {A = ℕ} 0 1 = cc in absurd (omega arith)
+index-as s p q i false false e = let z : _≡_ {A = ℕ} 0 1 = cc in absurd (omega arith)
+index-as s p q i false true e = let same : q ≡ shifted s p i = cc in ap (λ (r : Point). r .index) same
+
+pub shift-index : (s : List ℕ) (p q : Point) (i : ℕ) → Ok q ≡ shift-answer s p i → q .index ≡ i
+shift-index s p q i e = index-as s p q i (too-long s) (leb (p .index) i && leb i (length s) && within-a-note p) e

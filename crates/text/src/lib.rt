@@ -1,4 +1,4 @@
-// What every other part rests on: the refusals, the spans that the rules name, and the classes of bytes.
+// What every other part rests on: the refusals, the spans that the rules name, places, and the classes of bytes.
 pub mod ascii;
 pub mod displays;
 pub mod lent;

@@ -1,0 +1,3 @@
+pub mod CharacterWidths
+pub mod Characters
+pub mod InRanges
