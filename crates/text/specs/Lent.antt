@@ -1,6 +1,6 @@
 -- What becomes of a slice that a caller lends to have a list written into it.
 -- Assumes nothing.
-use mathlib.Core.Bool.{cond}
+use mathlib.Core.Bool.{Bool, cond}
 use mathlib.Core.List.{List, _++_}
 use Prim.Native.Nat.{ℕ}
 use lib.Dec.{leb}
@@ -9,6 +9,10 @@ use Rattle.std.specs.declared.result.Result.{Result}
 use Rattle.std.specs.declared.result.Result.the-variants.{Ok, Err}
 use Rattle.text.specs.declared.refusals.Fault.{Fault}
 use Rattle.text.specs.declared.refusals.Fault.the-variants.{BufferTooShort}
+
+-- xs fits into the slice
+abbrev pub fits : {X : Type 0} → List X → List X → Bool
+fits xs lent = leb (length xs) (length lent)
 
 -- the number of elements that are needed, or the refusal with that number where there is room for fewer
 abbrev pub room-for : ℕ → ℕ → Result ℕ Fault
@@ -20,4 +24,4 @@ written-count xs lent = room-for (length xs) (length lent)
 
 -- xs at the front and the elements past them as they were; all as it was where it is too short
 abbrev pub overwritten : {X : Type 0} → List X → List X → List X
-overwritten xs lent = cond (leb (length xs) (length lent)) (xs ++ drop (length xs) lent) lent
+overwritten xs lent = cond (fits xs lent) (xs ++ drop (length xs) lent) lent

@@ -1,0 +1,9 @@
+pub mod Ranks
+pub mod Splices
+pub mod Adds
+pub mod Outcomes
+pub mod OrderFree
+pub mod Lengths
+pub mod Checks
+pub mod Applies
+pub mod Consumes

@@ -1,0 +1,3 @@
+// Tests of the edit map: its limits, its refusals, and edits that meet at a place.
+#[cfg(test)]
+mod tests;
