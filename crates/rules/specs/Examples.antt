@@ -69,6 +69,9 @@ notes-to-try =
     with-both-sets (codes "a@b.c@d.e") (one Email 0 5) ∷
     with-both-sets (0x09 ∷ codes "c@d.e") (one Email 1 6) ∷
     with-both-sets (codes "hello@world.com") (one Email 0 15) ∷
+    -- from two service notes: a parenthesis that belongs to the address, and a mailbox whose name makes no address
+    with-both-sets (codes "see www.clock.example/(rev-b).") (one Www 4 29) ∷
+    with-both-sets (codes "Write to rtc@stores.bay4.") none ∷
     []
 
 -- where a Www begins

@@ -40,5 +40,5 @@ pub fn count_examples() -> usize
 fn table_rows() -> usize
     ensures { λ r. ⌜ r ≡ sumBy length tables ⌝ }
 {
-    113
+    115
 }
