@@ -14,6 +14,7 @@ use Rattle.text.specs.Bytes.{part}
 use Rattle.text.specs.Shown.{refusal-shown, kind-shown}
 use Rattle.text.specs.Notes.{too-long}
 use Rattle.rules.specs.Notes.{note-addresses}
+use Rattle.marked.specs.Marked.{marked-note}
 
 -- x lies within the note
 abbrev pub Within : List ℕ → Span → Type 0
@@ -50,3 +51,7 @@ abbrev pub report : List ℕ → List ℕ
 report s =
     cond (too-long s) (refusal-line NoteTooLong)
     (address-lines s (note-addresses s) ++ summary (length (note-addresses s)) (length s))
+
+-- the marked copy, or the same line of a refusal
+abbrev pub copy : List ℕ → List ℕ
+copy s = cond (too-long s) (refusal-line NoteTooLong) (marked-note s)

@@ -41,7 +41,7 @@ fn report_with_room(heap: Global, note: &[u8], spans: &mut [Span]) -> Result<Vec
     }
 }
 
-fn report_refusal(heap: Global, fault: Fault) -> Result<Vec<u8>, AllocError>
+pub(crate) fn report_refusal(heap: Global, fault: Fault) -> Result<Vec<u8>, AllocError>
     ensures { λ r. ⌜ made r (λ v. vec-items v ≡ refusal-line fault) ⌝ }
 {
     let line = format!(heap, "{fault}\n")?;

@@ -1,0 +1,4 @@
+pub mod Puts
+pub mod Turns
+pub mod Copied
+pub mod Outcomes
