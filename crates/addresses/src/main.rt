@@ -1,5 +1,7 @@
 // Prints the mail addresses of the note on standard input, and with the argument `--marked` the note with its addresses
 // marked: docs/FORMATS.md has both formats.
+#![tactic(auto)]
+
 mod marking;
 mod report;
 

@@ -1,4 +1,6 @@
 // Reads the kinds of the characters of three texts. With an argument it also prints how many it reads in a second.
+#![tactic(auto)]
+
 use characters::widths::char_width;
 use punctuation::kinds::kind_after_index;
 use punctuation::range_lists::house_set;

@@ -1,5 +1,7 @@
 // Prints the place, the code and the kind of each character of the note on standard input, by the house set.
 // It shows why a web address ends where it does.
+#![tactic(auto)]
+
 mod counts;
 mod failures;
 mod tallies;

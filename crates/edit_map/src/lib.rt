@@ -1,4 +1,6 @@
 // Batches of edits of a list that are made all at once: events and bytes are edited by this one text.
+#![tactic(auto)]
+
 mod entries;
 mod map;
 

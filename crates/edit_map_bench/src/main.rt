@@ -1,5 +1,7 @@
 // Makes 1,024 edits in a long list, round after round, and says what it did. With the number of rounds as its argument
 // it also says how long that took.
+#![tactic(auto)]
+
 mod work;
 
 use std::time::Instant;

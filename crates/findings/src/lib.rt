@@ -1,5 +1,7 @@
 // What the step machine finds in a note: exactly the segments of the note, its web spans among them as the link rules name them.
 // The statement stands in specs/Findings; what the machine leaves before data is joined, in specs/Pieces.
+#![tactic(auto)]
+
 ghost use Rattle.std.specs.Prelude.{◌≡◌};
 ghost use Rattle.findings.specs.Findings.{FindsTheLinks};
 ghost use Rattle.findings.specs.Pieces.{cuts_data};

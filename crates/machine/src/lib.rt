@@ -1,5 +1,7 @@
 // The step machine that reads a note: its parts, its definition, and what holds at every moment of every run.
 // The definition stands in specs/ (Cursors, Moves, States, Runs); docs/ENGINE.md says the same in words.
+#![tactic(auto)]
+
 pub mod attempts;
 pub mod cursors;
 pub mod events;

@@ -1,4 +1,6 @@
 // Copies of a note in which its addresses are marked.
+#![tactic(auto)]
+
 pub mod copies;
 
 pub use copies::mark_addresses;

@@ -1,4 +1,6 @@
 // Tests of the marked copy: its marks, its limits and its refusals.
+#![tactic(auto)]
+
 #[cfg(test)]
 mod tests {
     use edit_map::EditMap;

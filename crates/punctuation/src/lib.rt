@@ -1,4 +1,6 @@
 // Punctuation sets, and the kinds of characters that they tell.
+#![tactic(auto)]
+
 pub mod displays;
 pub mod kinds;
 pub mod range_lists;

@@ -1,4 +1,6 @@
 // Tests of places, characters, kinds and punctuation sets, and a set that shows that a set may change while its meaning stays.
+#![tactic(auto)]
+
 #[cfg(test)]
 mod character_tests;
 mod counting_set;

@@ -1,4 +1,6 @@
 // Runs the mail search: on the examples of the rules, on the limits, and on bytes of every kind.
+#![tactic(auto)]
+
 ghost use Rattle.std.specs.Prelude.{◌≡◌};
 ghost use Rattle.text.specs.declared.spans.SpanKind.TheVariants.{Email};
 

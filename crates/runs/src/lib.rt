@@ -1,4 +1,6 @@
 // Runs of state calls: docs/ENGINE.md, section 8.
+#![tactic(auto)]
+
 ghost use Rattle.std.specs.Prelude.{◌≡◌};
 ghost use Rattle.machine.specs.Invariant.{Sound};
 ghost use Rattle.machine.specs.Moves.{settled};

@@ -1,6 +1,7 @@
 -- The number and the place of each refusal.
 -- Assumes nothing.
-use Rattle.std.specs.Prelude.{ℕ}
+use Rattle.std.specs.Prelude.{ℕ, Bool, nat_eq}
+use Rattle.std.specs.Ordering.{on, eq_of_both}
 use Rattle.text.specs.declared.refusals.Fault.{Fault}
 use Rattle.text.specs.declared.refusals.Fault.TheVariants.{NoteTooLong, AlreadyLoaded, NothingLoaded, OutOfTurn, NoAllowance, TargetOutOfRange, EndTooEarly, NotEnded, RunNotMarkable, TooManyLinks, NoSuchEvent, NotResolved, EditOutOfRange, EditInsideRemoval, NoRoomForEdit, BufferTooShort, BadRangeListLength, UnlawfulRange}
 
@@ -44,3 +45,7 @@ place NoRoomForEdit = 0
 place (BufferTooShort needed) = needed
 place BadRangeListLength = 0
 place (UnlawfulRange rank) = rank
+
+-- number and place tell every refusal from every other
+abbrev pub same_fault : Fault → Fault → Bool
+same_fault = eq_of_both (on number nat_eq) (on place nat_eq)

@@ -1,4 +1,6 @@
 // What every other part rests on: the refusals, the spans that the rules name, places, and the classes of bytes.
+#![tactic(auto)]
+
 pub mod ascii;
 pub mod displays;
 pub mod lent;

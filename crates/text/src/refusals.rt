@@ -1,9 +1,9 @@
 // Every refusal of the software: docs/REFUSALS.md says who is turned away for what.
 ghost use Rattle.std.specs.Prelude.{◌≡◌, Decides};
-ghost use Rattle.text.specs.Refusals.{number, place};
+ghost use Rattle.text.specs.Refusals.{number, place, same_fault};
+ghost use Rattle.std.specs.Cmp.{partial_equiv_from_equiv};
 ghost use Rattle.std.specs.Cmp.Rules.{comparing};
 ghost use Rattle.std.proofs.Common.{rules};
-ghost use Rattle.std.specs.Cmp as Keys;
 
 // A case for each number, in the order of the numbers. A case that has a place carries it.
 #[derive(Clone, Copy, Debug)]
@@ -70,11 +70,14 @@ impl Fault {
 
 // Number and place tell every refusal from every other.
 impl PartialEq for Fault {
-    ghost equals = { λ f g r. Decides r (f ≡ g) };
+    ghost eq = { same_fault };
 
-    ghost laws = { Keys.partial_equiv_from_equiv (Prim.search (comparing, rules)) };
+    ghost laws = { partial_equiv_from_equiv (Prim.search (comparing, rules)) };
 
-    fn eq(&self, other: &Fault) -> bool {
+    fn eq(&self, other: &Fault) -> bool
+        ensures answer { result ≡ same_fault self.now other.now }
+        ensures exact { Decides result (self.now ≡ other.now) }
+    {
         self.number() == other.number() && self.place() == other.place()
     }
 }

@@ -13,12 +13,12 @@ prepare-requires g c =
     let note = c.args.engine.now.tokenizer.note in
     omega (arith, held-index {m = settled (machine c.loop-name.engine.tokenizer)} c.loop-name.invariant.3, c.args.engine.now.tokenizer.short, note.ok.0)
 
-pub returns-in-default : goal.returns-in-default
-returns-in-default g c =
+pub returns-in_default : goal.returns-in_default
+returns-in_default g c =
     record {
       ran =
           stops (g.S.PunctuationSet.member c.args.engine.now.set) c.args.until (machine c.loop-name.engine.tokenizer) (machine c.prepare.new.self) (c.args.allowance - c.loop-name.steps) c.loop-name.steps
-          c.prepare.ensures (sym c.due.ensures ∙ c.in-default.is)
+          c.prepare.ensures (sym c.due.ensures ∙ c.in_default.is)
           ∙ c.loop-name.invariant.2;
       meaning_stays = c.loop-name.invariant.1;
     }
@@ -39,7 +39,7 @@ loop-name-preserved g c =
     let r = machine c.call.new.self.tokenizer in
     let is-due = sym c.due.ensures ∙ c.in-Some.is in (
       omega arith,
-      c.call.ensures.meaning-stays ∙ c.loop-name.invariant.1,
+      c.call.ensures.meaning_stays ∙ c.loop-name.invariant.1,
       turns member c.args.until m p q r c.in-Some.name (c.args.allowance - (c.loop-name.steps + 1)) (c.args.allowance - c.loop-name.steps) c.loop-name.steps mine
           c.prepare.ensures is-due c.show.ensures c.call.ensures.called c.loop-name.invariant.1 (omega arith)
           ∙ c.loop-name.invariant.2,

@@ -7,8 +7,8 @@ use Rattle.addresses.proofs.marking.make_copy.Goals as goal
 pub returns-in-Ok : goal.returns-in-Ok
 returns-in-Ok c =
     let s = c.args.note.now in
-    IfOk-weaker c.from-slice.result
-    (λ v. (vec_items v ≡ take (c.in-Ok.count - 0) c.mark-addresses.new.out) × (vec_len v ≡ length (take (c.in-Ok.count - 0) c.mark-addresses.new.out)))
+    IfOk-weaker c.from_slice.result
+    (λ v. (vec_items v ≡ take (c.in-Ok.count - 0) c.mark_addresses.new.out) × (vec_len v ≡ length (take (c.in-Ok.count - 0) c.mark_addresses.new.out)))
     (λ v. vec_items v ≡ copy s)
-    (λ v e. e.0 ∙ copy_made s _ c.mark-addresses.new.out c.in-Ok.count c.in-Ok.ensures.answer c.mark-addresses.ensures.written)
-    c.from-slice.ensures.made
+    (λ v e. e.0 ∙ copy_made s _ c.mark_addresses.new.out c.in-Ok.count c.in-Ok.ensures.answer c.mark_addresses.ensures.written)
+    c.from_slice.ensures.made

@@ -5,7 +5,7 @@ use Rattle.addresses.proofs.report.append_address.Goals as goal
 pub returns : goal.returns
 returns c =
     three_pieces _ _ _ _ _ _ _ _
-    c.in-ok-extend-from-slice.ensures.items
-    (c.as-bytes.ensures.value ∙ c.in-ok-head.ensures)
-    c.in-ok-extend-from-slice-2.ensures.items
-    c.in-ok-extend-from-slice-3.ensures.items
+    c.in_ok-extend_from_slice.ensures.items
+    (c.as_bytes.ensures.value ∙ c.in_ok-head.ensures)
+    c.in_ok-extend_from_slice-2.ensures.items
+    c.in_ok-extend_from_slice-3.ensures.items

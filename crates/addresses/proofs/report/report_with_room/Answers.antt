@@ -6,29 +6,29 @@ use Rattle.addresses.specs.Report.{Within, refusal_line, address_lines, summary,
 use Rattle.addresses.proofs.Outcomes.{refused, accepted, each_within, reports, reports_refusal}
 use Rattle.addresses.proofs.report.report_with_room.Goals as goal
 
-pub list-addresses-requires : goal.list-addresses-requires
-list-addresses-requires c =
+pub list_addresses-requires : goal.list_addresses-requires
+list_addresses-requires c =
     let s = c.args.note.now in
-    let a = accepted s c.args.spans.now c.find-note-addresses.new.out c.in-Ok.count c.in-Ok.ensures.answer c.find-note-addresses.ensures.written in
-    subst (All (Within s)) (sym a.1) (each_within s _ c.find-note-addresses.ensures.each-is-an-address)
+    let a = accepted s c.args.spans.now c.find_note_addresses.new.out c.in-Ok.count c.in-Ok.ensures.answer c.find_note_addresses.ensures.written in
+    subst (All (Within s)) (sym a.1) (each_within s _ c.find_note_addresses.ensures.each-is-an-address)
 
 pub returns-in-Ok : goal.returns-in-Ok
 returns-in-Ok c =
     let s = c.args.note.now in
-    let xs : List Span = take (c.in-Ok.count - 0) c.find-note-addresses.new.out in
-    let a = accepted s c.args.spans.now c.find-note-addresses.new.out c.in-Ok.count c.in-Ok.ensures.answer c.find-note-addresses.ensures.written in
-    IfOk-weaker c.list-addresses.result
+    let xs : List Span = take (c.in-Ok.count - 0) c.find_note_addresses.new.out in
+    let a = accepted s c.args.spans.now c.find_note_addresses.new.out c.in-Ok.count c.in-Ok.ensures.answer c.find_note_addresses.ensures.written in
+    IfOk-weaker c.list_addresses.result
     (λ v. vec_items v ≡ address_lines s xs ++ summary (length xs) (length s))
     (λ v. vec_items v ≡ report s)
     (λ v e. e ∙ reports s xs a.0 a.1)
-    c.list-addresses.ensures
+    c.list_addresses.ensures
 
 pub returns-in-Err : goal.returns-in-Err
 returns-in-Err c =
     let s = c.args.note.now in
     let r = refused s c.args.spans.now c.in-Err.fault c.requires c.in-Err.ensures.answer in
-    IfOk-weaker c.report-refusal.result
+    IfOk-weaker c.report_refusal.result
     (λ v. vec_items v ≡ refusal_line c.in-Err.fault)
     (λ v. vec_items v ≡ report s)
     (λ v e. e ∙ reports_refusal s c.in-Err.fault r)
-    c.report-refusal.ensures
+    c.report_refusal.ensures

@@ -9,10 +9,10 @@ said n addresses length bytes = decimal n ++ (codes " " ++ (addresses ++ (codes 
 
 pub returns : goal.returns
 returns c =
-    let a = c.pick-noun-addresses.ensures in
-    let b = c.pick-noun-bytes.ensures in
+    let a = c.pick_noun-addresses.ensures in
+    let b = c.pick_noun-bytes.ensures in
     IfOk-weaker c.format.result
-    (λ s. string_bytes s ≡ said c.args.count c.pick-noun-addresses.result.now c.args.length c.pick-noun-bytes.result.now)
+    (λ s. string_bytes s ≡ said c.args.count c.pick_noun-addresses.result.now c.args.length c.pick_noun-bytes.result.now)
     (λ s. string_bytes s ≡ summary c.args.count c.args.length)
     (λ s e. e ∙ (λ i. said c.args.count (a i) c.args.length (b i)))
     c.format.ensures.ok

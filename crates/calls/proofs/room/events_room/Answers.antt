@@ -8,9 +8,9 @@ use Rattle.calls.proofs.room.events_room.Goals as goal
 pub returns : goal.returns
 returns c =
     record {
-      value = c.most-events.ensures;
-      lists_fit = subst ListsFit (sym c.most-events.ensures) lists_fit;
-      room_is_reached = subst RoomIsReached (sym c.most-events.ensures) room_is_reached;
+      value = c.most_events.ensures;
+      lists_fit = subst ListsFit (sym c.most_events.ensures) lists_fit;
+      room_is_reached = subst RoomIsReached (sym c.most_events.ensures) room_is_reached;
       two_a_byte_and_a_link = two_a_byte_and_a_link;
       segments_are_read = segments_are_read;
       resolving_resolves = resolving_resolves;

@@ -14,5 +14,5 @@ pub returns : goal.returns
 returns c =
     let s = c.args.bytes.now in
     let i = c.args.index in
-    let e = some-before-end s i c.decode.result c.from-u32.result (omega arith) c.decode.ensures c.from-u32.ensures.value in
+    let e = some-before-end s i c.decode.result c.from_u32.result (omega arith) c.decode.ensures c.from_u32.ensures.value in
     record { answer = e; encoded_is_read = subst (EncodedIsRead s i) (sym e) (encoded_is_read s i); read_is_encoded = subst (ReadIsEncoded s i) (sym e) (read_is_encoded s i); examples = characters_read }

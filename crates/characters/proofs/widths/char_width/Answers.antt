@@ -12,10 +12,10 @@ returns-in-Some c =
     let rest = between_to_end s i (length s) (omega arith) in
     let long : length (between i (length s) s) ≡ length s - i = ap length rest ∙ length-drop i s in
     record {
-      answer = replacement s i _ (ap Some (sym c.if-c-eq-REPLACEMENT-CHARACTER.true) ∙ c.in-Some.ensures.answer) (c.measure-replacement.ensures.answer ∙ ap replacement_width rest);
+      answer = replacement s i _ (ap Some (sym c.if-c-eq-REPLACEMENT_CHARACTER.true) ∙ c.in-Some.ensures.answer) (c.measure_replacement.ensures.answer ∙ ap replacement_width rest);
       ends_within = λ lt.
           let some : 0 < length (between i (length s) s) = omega (arith, long, lt) in
-          let w = c.measure-replacement.ensures.within some in
+          let w = c.measure_replacement.ensures.within some in
           (w.0, omega (arith, w.1, long, lt));
     }
 
@@ -23,9 +23,9 @@ pub returns-in-Some-2 : goal.returns-in-Some-2
 returns-in-Some-2 c =
     let s = c.args.bytes.now in
     let i = c.args.index in
-    let ne = c.if-c-eq-REPLACEMENT-CHARACTER.false in
+    let ne = c.if-c-eq-REPLACEMENT_CHARACTER.false in
     let e = c.in-Some.ensures in
     record {
-      answer = written s i _ c.in-Some.c e.answer ne c.len-utf8.ensures.len;
-      ends_within = λ lt. (omega (arith, c.len-utf8.ensures.lower-bound), omega (arith, c.len-utf8.ensures.len, written_within s i c.in-Some.c (e.read_is_encoded c.in-Some.c refl ne) lt));
+      answer = written s i _ c.in-Some.c e.answer ne c.len_utf8.ensures.len;
+      ends_within = λ lt. (omega (arith, c.len_utf8.ensures.lower-bound), omega (arith, c.len_utf8.ensures.len, written_within s i c.in-Some.c (e.read_is_encoded c.in-Some.c refl ne) lt));
     }

@@ -4,15 +4,15 @@ use Rattle.std.proofs.lemmas.Bool.Decides.{nat_tests}
 use Rattle.text.proofs.Words.{reads_when}
 use Rattle.engine.proofs.state.is_protocol_read.Goals as goal
 
-pub returns-then-eq-ignore-ascii-case : goal.returns-then-eq-ignore-ascii-case
-returns-then-eq-ignore-ascii-case c =
-    let v = c.as-slice.ensures.value in
-    let x = reads_when (codes "http") _ _ refl (cases_from_iff c.eq-ignore-ascii-case.ensures.test) in
+pub returns-then-eq_ignore_ascii_case : goal.returns-then-eq_ignore_ascii_case
+returns-then-eq_ignore_ascii_case c =
+    let v = c.as_slice.ensures.value in
+    let x = reads_when (codes "http") _ _ refl (cases_from_iff c.eq_ignore_ascii_case.ensures.test) in
     grind (arith, nat_tests)
 
-pub returns-else-eq-ignore-ascii-case : goal.returns-else-eq-ignore-ascii-case
-returns-else-eq-ignore-ascii-case c =
-    let v = c.as-slice.ensures.value in
-    let x = reads_when (codes "http") _ _ refl (cases_from_iff c.eq-ignore-ascii-case.ensures.test) in
-    let y = reads_when (codes "https") _ _ refl (cases_from_iff c.eq-ignore-ascii-case-else-eq-ignore-ascii-case.ensures.test) in
+pub returns-else-eq_ignore_ascii_case : goal.returns-else-eq_ignore_ascii_case
+returns-else-eq_ignore_ascii_case c =
+    let v = c.as_slice.ensures.value in
+    let x = reads_when (codes "http") _ _ refl (cases_from_iff c.eq_ignore_ascii_case.ensures.test) in
+    let y = reads_when (codes "https") _ _ refl (cases_from_iff c.eq_ignore_ascii_case-else-eq_ignore_ascii_case.ensures.test) in
     grind (arith, nat_tests)

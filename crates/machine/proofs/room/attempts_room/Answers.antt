@@ -6,9 +6,9 @@ use Rattle.machine.proofs.room.attempts_room.Goals as goal
 
 pub returns : goal.returns
 returns c =
-    let e = sym c.most-attempts.ensures in
+    let e = sym c.most_attempts.ensures in
     record {
-      value = c.most-attempts.ensures;
+      value = c.most_attempts.ensures;
       fit = subst AttemptsFit e attempts_fit;
       reach = subst AttemptsReach e attempts_reach;
       every_step_keeps = every_step_keeps;

@@ -6,9 +6,9 @@ use Rattle.machine.proofs.room.events_per_byte.Goals as goal
 
 pub returns : goal.returns
 returns c =
-    let e = sym c.most-events-per-byte.ensures in
+    let e = sym c.most_events_per_byte.ensures in
     record {
-      value = c.most-events-per-byte.ensures;
+      value = c.most_events_per_byte.ensures;
       fit = subst EventsFit e events_fit;
       reach = subst EventsReach e events_reach;
       lawful_at_every_moment = lawful_at_every_moment;

@@ -5,5 +5,5 @@ use Rattle.machine.proofs.room.names_room.Goals as goal
 
 pub returns : goal.returns
 returns c =
-    let e = sym c.most-names.ensures in
-    record { value = c.most-names.ensures; fit = subst NamesFit e names_fit; reach = subst NamesReach e names_reach }
+    let e = sym c.most_names.ensures in
+    record { value = c.most_names.ensures; fit = subst NamesFit e names_fit; reach = subst NamesReach e names_reach }

@@ -5,7 +5,7 @@ use Rattle.machine.proofs.worked.worked_notes.Goals as goal
 pub returns : goal.returns
 returns c =
     record {
-      count = c.count-worked.ensures;
+      count = c.count_worked.ensures;
       every_note_works_out = every_note_works_out;
       every_part_works_out = every_part_works_out;
       splits_alike = splits_alike;

@@ -3,36 +3,36 @@ use Rattle.std.proofs.lemmas.Result.{err_from_is_err_and}
 use Rattle.marked.proofs.Outcomes.{known, long, short, marked, found, ready}
 use Rattle.marked.proofs.copies.mark_with_room.Goals as goal
 
-pub returns-in-err-count : goal.returns-in-err-count
-returns-in-err-count c =
+pub returns-in_err-count : goal.returns-in_err-count
+returns-in_err-count c =
     let s = c.args.note.now in
-    let p = err_from_is_err_and c.from-residual.result c.from-residual.ensures.1 in
-    let k = known s c.find-note-addresses.ensures.in-text-order c.find-note-addresses.ensures.each-is-an-address in
-    let done = long c.args.map.now s c.args.out.now k c.args.spans.now c.in-err-count.field-0.0 c.from-residual.result c.requires (p.1 ∙ ap Err p.2) c.in-err-count.ensures.answer in
+    let p = err_from_is_err_and c.from_residual.result c.from_residual.ensures.1 in
+    let k = known s c.find_note_addresses.ensures.in-text-order c.find_note_addresses.ensures.each-is-an-address in
+    let done = long c.args.map.now s c.args.out.now k c.args.spans.now c.in_err-count.field-0.0 c.from_residual.result c.requires (p.1 ∙ ap Err p.2) c.in_err-count.ensures.answer in
     record { answer = done.answer; written = done.written; as_new = done.as_new; refused = done.refused; faithful = done.faithful }
 
-pub returns-in-err-check-room : goal.returns-in-err-check-room
-returns-in-err-check-room c =
+pub returns-in_err-check_room : goal.returns-in_err-check_room
+returns-in_err-check_room c =
     let s = c.args.note.now in
-    let p = err_from_is_err_and c.from-residual-in-err-check-room.result c.from-residual-in-err-check-room.ensures.1 in
-    let k = known s c.find-note-addresses.ensures.in-text-order c.find-note-addresses.ensures.each-is-an-address in
-    let f = found s c.args.spans.now c.find-note-addresses.new.out c.in-ok-count.count c.in-ok-count.ensures.answer c.find-note-addresses.ensures.written in
-    let done = short c.args.map.now s c.args.out.now k c.in-ok-count.count c.in-err-check-room.field-0.0 c.from-residual-in-err-check-room.result f.not_long f.count (p.1 ∙ ap Err p.2) c.in-err-check-room.ensures in
+    let p = err_from_is_err_and c.from_residual-in_err-check_room.result c.from_residual-in_err-check_room.ensures.1 in
+    let k = known s c.find_note_addresses.ensures.in-text-order c.find_note_addresses.ensures.each-is-an-address in
+    let f = found s c.args.spans.now c.find_note_addresses.new.out c.in_ok-count.count c.in_ok-count.ensures.answer c.find_note_addresses.ensures.written in
+    let done = short c.args.map.now s c.args.out.now k c.in_ok-count.count c.in_err-check_room.field-0.0 c.from_residual-in_err-check_room.result f.not_long f.count (p.1 ∙ ap Err p.2) c.in_err-check_room.ensures in
     record { answer = done.answer; written = done.written; as_new = done.as_new; refused = done.refused; faithful = done.faithful }
 
-pub write-copy-requires : goal.write-copy-requires
-write-copy-requires c =
+pub write_copy-requires : goal.write_copy-requires
+write_copy-requires c =
     let s = c.args.note.now in
-    let k = known s c.find-note-addresses.ensures.in-text-order c.find-note-addresses.ensures.each-is-an-address in
-    let f = found s c.args.spans.now c.find-note-addresses.new.out c.in-ok-count.count c.in-ok-count.ensures.answer c.find-note-addresses.ensures.written in
-    let r = ready s c.in-ok-count.count _ c.find-note-addresses.new.out c.args.out.now k f c.in-ok-check-room.ensures in
+    let k = known s c.find_note_addresses.ensures.in-text-order c.find_note_addresses.ensures.each-is-an-address in
+    let f = found s c.args.spans.now c.find_note_addresses.new.out c.in_ok-count.count c.in_ok-count.ensures.answer c.find_note_addresses.ensures.written in
+    let r = ready s c.in_ok-count.count _ c.find_note_addresses.new.out c.args.out.now k f c.in_ok-check_room.ensures in
     record { short = r.short; few = r.few; in_turn = r.turn; room = r.room }
 
 pub returns : goal.returns
 returns c =
     let s = c.args.note.now in
-    let k = known s c.find-note-addresses.ensures.in-text-order c.find-note-addresses.ensures.each-is-an-address in
-    let f = found s c.args.spans.now c.find-note-addresses.new.out c.in-ok-count.count c.in-ok-count.ensures.answer c.find-note-addresses.ensures.written in
-    let r = ready s c.in-ok-count.count _ c.find-note-addresses.new.out c.args.out.now k f c.in-ok-check-room.ensures in
-    let done = marked c.args.map.now s c.args.out.now k c.write-copy.new.map (take (c.in-ok-count.count - 0) c.find-note-addresses.new.out) c.write-copy.new.out c.write-copy.result f.not_long f.spans r.room c.write-copy.ensures.answer c.write-copy.ensures.written c.write-copy.ensures.as-new in
+    let k = known s c.find_note_addresses.ensures.in-text-order c.find_note_addresses.ensures.each-is-an-address in
+    let f = found s c.args.spans.now c.find_note_addresses.new.out c.in_ok-count.count c.in_ok-count.ensures.answer c.find_note_addresses.ensures.written in
+    let r = ready s c.in_ok-count.count _ c.find_note_addresses.new.out c.args.out.now k f c.in_ok-check_room.ensures in
+    let done = marked c.args.map.now s c.args.out.now k c.write_copy.new.map (take (c.in_ok-count.count - 0) c.find_note_addresses.new.out) c.write_copy.new.out c.write_copy.result f.not_long f.spans r.room c.write_copy.ensures.answer c.write_copy.ensures.written c.write_copy.ensures.as_new in
     record { answer = done.answer; written = done.written; as_new = done.as_new; refused = done.refused; faithful = done.faithful }

@@ -10,9 +10,9 @@ returns c =
     let store = c.args.store.now in
     let mark = c.args.mark.now in
     let es = edits_of m store in
-    let ok = c.add-before.ensures.answer ∙ mark-accepted (length store) (kept_count m) c.args.place mark es c.requires.low c.requires.some c.requires.order c.requires.few c.requires.room in
+    let ok = c.add_before.ensures.answer ∙ mark-accepted (length store) (kept_count m) c.args.place mark es c.requires.low c.requires.some c.requires.order c.requires.few c.requires.room in
     record {
       answer = ok;
-      edits = c.add-before.ensures.edits ∙ ap (λ r. after r (added_before c.args.place 0 mark es) es) ok ∙ mark-put c.args.place mark es c.requires.some;
-      kept = c.add-before.ensures.kept ∙ ap (λ r. after r (kept_count m + length mark) (kept_count m)) ok;
+      edits = c.add_before.ensures.edits ∙ ap (λ r. after r (added_before c.args.place 0 mark es) es) ok ∙ mark-put c.args.place mark es c.requires.some;
+      kept = c.add_before.ensures.kept ∙ ap (λ r. after r (kept_count m + length mark) (kept_count m)) ok;
     }

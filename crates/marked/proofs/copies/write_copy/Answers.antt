@@ -6,11 +6,11 @@ use Rattle.edit_map.specs.View.{kept_count, edits_of, AsNew}
 use Rattle.marked.proofs.Copied.{wider, copied, copy-accepted}
 use Rattle.marked.proofs.copies.write_copy.Goals as goal
 
-pub put-marks-requires : goal.put-marks-requires
-put-marks-requires c = record {
+pub put_marks-requires : goal.put_marks-requires
+put_marks-requires c = record {
   as_new = c.clear.ensures;
   few = c.requires.few;
-  in_turn = wider 0 (length c.args.note.now) 1024 c.args.spans.now c.requires.short c.requires.in-turn;
+  in_turn = wider 0 (length c.args.note.now) 1024 c.args.spans.now c.requires.short c.requires.in_turn;
   room = omega arith;
 }
 
@@ -19,13 +19,13 @@ returns c =
     let s = c.args.note.now in
     let xs = c.args.spans.now in
     let out = c.args.out.now in
-    let m = c.put-marks.new.map in
-    let store = c.put-marks.new.store in
+    let m = c.put_marks.new.map in
+    let store = c.put_marks.new.store in
     let es = edits_of m store in
-    let is = c.put-marks.ensures.edits in
-    let ok = c.consume.ensures.answer ∙ copy-accepted s xs es is c.requires.in-turn (length store) (kept_count m) out (omega (arith, c.requires.few, c.put-marks.ensures.kept, c.put-marks.auto.store)) c.requires.room in
+    let is = c.put_marks.ensures.edits in
+    let ok = c.consume.ensures.answer ∙ copy-accepted s xs es is c.requires.in_turn (length store) (kept_count m) out (omega (arith, c.requires.few, c.put_marks.ensures.kept, c.put_marks.auto.store)) c.requires.room in
     record {
       answer = ok;
-      written = c.consume.ensures.written ∙ ap (λ r. after r (overwritten (applied es s) out) out) ok ∙ ap (λ l. overwritten l out) (copied s xs es is c.requires.in-turn);
-      as_new = subst (λ (r : Result ℕ Fault). IfOk r (λ _. AsNew c.consume.new.self)) ok c.consume.ensures.as-new;
+      written = c.consume.ensures.written ∙ ap (λ r. after r (overwritten (applied es s) out) out) ok ∙ ap (λ l. overwritten l out) (copied s xs es is c.requires.in_turn);
+      as_new = subst (λ (r : Result ℕ Fault). IfOk r (λ _. AsNew c.consume.new.self)) ok c.consume.ensures.as_new;
     }

@@ -7,8 +7,8 @@ use Rattle.rules.proofs.addresses.count_addresses.Goals as goal
 pub loop-span-init : goal.loop-span-init
 loop-span-init c = behind_none (address_at c.args.bytes.now) c.args.bytes.now (mail-forward c.args.bytes.now)
 
-pub overflow-add-count : goal.overflow-add-count
-overflow-add-count c = omega (arith, c.loop-span.invariant.few, c.loop-span.invariant.inside)
+pub overflow_add-count : goal.overflow_add-count
+overflow_add-count c = omega (arith, c.loop-span.invariant.few, c.loop-span.invariant.inside)
 
 pub loop-span-smaller : goal.loop-span-smaller
 loop-span-smaller c =
@@ -24,5 +24,5 @@ loop-span-preserved c =
 pub returns : goal.returns
 returns c =
     let s = c.args.bytes.now in
-    let all : c.loop-span.count ≡ length (addresses s) = behind_all (address_at s) s (mail-forward s) _ _ c.loop-span.invariant (sym c.in-default.ensures) in
+    let all : c.loop-span.count ≡ length (addresses s) = behind_all (address_at s) s (mail-forward s) _ _ c.loop-span.invariant (sym c.in_default.ensures) in
     record { count = all; bound = omega (arith, all, at_most (address_at s) s (mail-forward s)); in_text_order = addresses-in_order s; each_is_an_address = addresses_are s; none_missed_none_added = addresses-in_turn s }

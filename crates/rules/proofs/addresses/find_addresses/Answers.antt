@@ -6,12 +6,12 @@ use Rattle.rules.proofs.AddressParts.{addresses-in_order, addresses-in_turn, add
 use Rattle.rules.proofs.Writes.{short_kept}
 use Rattle.rules.proofs.addresses.find_addresses.Goals as goal
 
-pub returns-in-err-count : goal.returns-in-err-count
-returns-in-err-count c =
+pub returns-in_err-count : goal.returns-in_err-count
+returns-in_err-count c =
     let s = c.args.bytes.now in
     let out = c.args.out.now in
-    let p = err_from_is_err_and c.from-residual.result c.from-residual.ensures.1 in
-    let h = c.in-err-count.ensures ∙ ap (λ n. room_for n (length out)) c.count-addresses.ensures.count in
+    let p = err_from_is_err_and c.from_residual.result c.from_residual.ensures.1 in
+    let h = c.in_err-count.ensures ∙ ap (λ n. room_for n (length out)) c.count_addresses.ensures.count in
     record {
       answer = p.1 ∙ ap Err p.2 ∙ h;
       written = short_kept (addresses s) out _ h;

@@ -13,14 +13,14 @@ loop-span-init c =
     let s = c.args.bytes.now in
     (behind_none (address_at s) s (mail-forward s), paste_none c.args.out.now c.args.first (map (moved c.args.base) (addresses s)))
 
-pub overflow-add-out : goal.overflow-add-out
-overflow-add-out c =
+pub overflow_add-out : goal.overflow_add-out
+overflow_add-out c =
     let s = c.args.bytes.now in
     let e = sym c.in-Some.ensures in
     omega (arith, c.requires.fits, next-some (address_at s) s (mail-forward s) _ _ e, next_high (address_at s) s (mail-forward s) _ _ e)
 
-pub overflow-add-out-in-Some : goal.overflow-add-out-in-Some
-overflow-add-out-in-Some c =
+pub overflow_add-out-in-Some : goal.overflow_add-out-in-Some
+overflow_add-out-in-Some c =
     let s = c.args.bytes.now in
     omega (arith, c.requires.fits, next_high (address_at s) s (mail-forward s) _ _ (sym c.in-Some.ensures))
 
@@ -48,7 +48,7 @@ loop-span-preserved c =
 pub returns : goal.returns
 returns c =
     let s = c.args.bytes.now in
-    let all : c.loop-span.count ≡ length (addresses s) = behind_all (address_at s) s (mail-forward s) _ _ c.loop-span.invariant.0 (sym c.in-default.ensures) in
+    let all : c.loop-span.count ≡ length (addresses s) = behind_all (address_at s) s (mail-forward s) _ _ c.loop-span.invariant.0 (sym c.in_default.ensures) in
     record {
       end = ap (λ n. c.args.first + n) all;
       written = c.loop-span.invariant.1 ∙ ap (paste c.args.out.now c.args.first (map (moved c.args.base) (addresses s))) all;

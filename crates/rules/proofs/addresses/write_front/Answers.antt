@@ -4,4 +4,4 @@ use Rattle.rules.proofs.Writes.{written_moved}
 use Rattle.rules.proofs.addresses.write_front.Goals as goal
 
 pub returns : goal.returns
-returns c = c.write-addresses.ensures.written ∙ written_moved (addresses c.args.bytes.now) c.args.out.now c.requires
+returns c = c.write_addresses.ensures.written ∙ written_moved (addresses c.args.bytes.now) c.args.out.now c.requires

@@ -6,6 +6,6 @@ pub returns : goal.returns
 returns c =
     let s = c.args.bytes.now in
     record {
-      answer = c.read-address.ensures;
-      first = found-or_else (address_at s c.args.min) s c.args.at c.read-address.result c.requires.1 c.read-address.ensures;
+      answer = c.read_address.ensures;
+      first = found-or_else (address_at s c.args.min) s c.args.at c.read_address.result c.requires.1 c.read_address.ensures;
     }

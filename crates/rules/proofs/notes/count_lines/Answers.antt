@@ -5,8 +5,8 @@ use Rattle.rules.proofs.notes.count_lines.Goals as goal
 
 pub loop-start-preserved : goal.loop-start-preserved
 loop-start-preserved c = (
-  count-more c.args.note.now _ _ _ _ c.loop-start.invariant.0 c.loop-start-test.true c.line-stop-stop.ensures.stop c.count-addresses-count.ensures.count,
-  omega (arith, c.line-stop-stop.ensures.within.1),
+  count-more c.args.note.now _ _ _ _ c.loop-start.invariant.0 c.loop-start-test.true c.line_stop-stop.ensures.stop c.count_addresses-count.ensures.count,
+  omega (arith, c.line_stop-stop.ensures.within.1),
 )
 
 pub returns : goal.returns

@@ -8,13 +8,13 @@ loop-index-preserved c =
     let s = c.args.note.now in (
       omega (arith, c.loop-index.invariant.0),
       omega (arith, c.loop-index-test.true),
-      sym (first_more (λ j. line_ending_byte (get_or s j 0)) s c.loop-index.index c.loop-index-test.true (sym c.if-not-is-line-ending-byte.ensures)) ∙ c.loop-index.invariant.2,
+      sym (first_more (λ j. line_ending_byte (get_or s j 0)) s c.loop-index.index c.loop-index-test.true (sym c.if-not-is_line_ending_byte.ensures)) ∙ c.loop-index.invariant.2,
     )
 
-pub returns-else-not-is-line-ending-byte : goal.returns-else-not-is-line-ending-byte
-returns-else-not-is-line-ending-byte c =
+pub returns-else-not-is_line_ending_byte : goal.returns-else-not-is_line_ending_byte
+returns-else-not-is_line_ending_byte c =
     let s = c.args.note.now in
     record {
-      stop = sym (first_here (λ j. line_ending_byte (get_or s j 0)) s c.loop-index.index c.loop-index-test.true (sym c.if-not-is-line-ending-byte.ensures)) ∙ c.loop-index.invariant.2;
+      stop = sym (first_here (λ j. line_ending_byte (get_or s j 0)) s c.loop-index.index c.loop-index-test.true (sym c.if-not-is_line_ending_byte.ensures)) ∙ c.loop-index.invariant.2;
       within = (c.loop-index.invariant.0, c.loop-index.invariant.1);
     }

@@ -6,7 +6,7 @@ use Rattle.rules.proofs.web.is_web.Goals as goal
 pub returns : goal.returns
 returns c =
     record {
-      answer = c.is-www-or-protocol.ensures;
+      answer = c.is_www_or_protocol.ensures;
       web_spans_are_lawful = lawful;
       segments_are_lawful = lawful-segments;
       spans_are_lawful = lawful-spans;

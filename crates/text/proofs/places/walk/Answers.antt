@@ -12,7 +12,7 @@ loop-next-preserved c =
     let s = c.args.note.now in
     let next = c.loop-next.next in
     let here : c.pass-next.result ≡ point (past (get_or s next.index 0) (get_or s (next.index + 1) 0) (place_of next)) (next.index + 1) =
-    c.pass-next.ensures ∙ ap (λ b. point (past (get_or s next.index 0) b (place_of next)) (next.index + 1)) c.byte-at-after.ensures in (
+    c.pass-next.ensures ∙ ap (λ b. point (past (get_or s next.index 0) b (place_of next)) (next.index + 1)) c.byte_at-after.ensures in (
       come_more s c.args.from next c.pass-next.result c.loop-next.invariant.0 here,
       omega (arith, ap (λ (p : Point). p.index) here, c.loop-next-test.true),
     )

@@ -9,16 +9,16 @@ use Rattle.edit_map.proofs.Lengths.{removed-within}
 use Rattle.edit_map.proofs.Consumes.{new-length, short, too_many, long-enough, over}
 use Rattle.edit_map.proofs.map.EditMap.write.Goals as goal
 
-pub removed-count-requires : goal.removed-count-requires
-removed-count-requires g c =
+pub removed_count-requires : goal.removed_count-requires
+removed_count-requires g c =
     let es = vec_items c.args.self.now.entries in
     let within = removed-within 0 (length c.args.list.now) (edits es c.args.store.now) (omega arith) c.requires.order in
     let same = removed-bare es c.args.store.now in
     let here = ap (λ l. removed (bare l)) c.deref.ensures.value in
     omega arith
 
-pub overflow-sub-stays : goal.overflow-sub-stays
-overflow-sub-stays g c =
+pub overflow_sub-stays : goal.overflow_sub-stays
+overflow_sub-stays g c =
     let es = vec_items c.args.self.now.entries in
     let within = removed-within 0 (length c.args.list.now) (edits es c.args.store.now) (omega arith) c.requires.order in
     let same = removed-bare es c.args.store.now in

@@ -4,8 +4,8 @@ use Rattle.machine.proofs.Keeps.{sound_beginning}
 use Rattle.reader.specs.Kept.{Kept}
 use Rattle.reader.proofs.reader.Reader.load.Goals as goal
 
-pub invariant-of-self : goal.invariant-of-self
-invariant-of-self g c = (
+pub invariant_of-self : goal.invariant_of-self
+invariant_of-self g c = (
   omega (arith, c.truncate.ensures.capacity, c.args.self.now.reserved),
   (∣ subst (Kept Loaded) (sym c.restart.ensures) (sound_beginning c.args.note.now) ∣₁, tt),
 )

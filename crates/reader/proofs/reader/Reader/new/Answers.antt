@@ -1,4 +1,4 @@
 use Rattle.reader.proofs.reader.Reader.new.Goals as goal
 
-pub invariant-of-result : goal.invariant-of-result
-invariant-of-result g c = (c.in-ok-links.ensures.capacity, (∣ tt ∣₁, tt))
+pub invariant_of-result : goal.invariant_of-result
+invariant_of-result g c = (c.in_ok-links.ensures.capacity, (∣ tt ∣₁, tt))

@@ -4,4 +4,4 @@ use Rattle.tokenizer.proofs.attempts.Attempts.new.Goals as goal
 
 pub returns : goal.returns
 unfolding stack
-returns c = ap reverse c.in-ok-items.ensures.items
+returns c = ap reverse c.in_ok-items.ensures.items
