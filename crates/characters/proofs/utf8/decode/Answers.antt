@@ -2,8 +2,8 @@ use Rattle.std.proofs.Common.{sym, rules}
 use Rattle.characters.proofs.Characters.{none_of_two, none_of_three}
 use Rattle.characters.proofs.utf8.decode.Goals as goal
 
-pub returns-in_default·3 : goal.returns-in_default·3
-returns-in_default·3 c = none_of_two c.args.bytes.now (search rules) (search rules) (sym c.if-is_one_byte.ensures) (sym c.if-is_two_bytes.ensures)
+pub returns-in_default-3 : goal.returns-in_default-3
+returns-in_default-3 c = none_of_two c.args.bytes.now (search rules) (search rules) (sym c.if-is_one_byte.ensures) (sym c.if-is_two_bytes.ensures)
 
-pub returns-in_default·4 : goal.returns-in_default·4
-returns-in_default·4 c = none_of_three c.args.bytes.now (search rules) (search rules) (sym c.if-is_one_byte.ensures) (sym c.if-is_two_bytes.ensures) (sym c.if-is_three_bytes.ensures)
+pub returns-in_default-4 : goal.returns-in_default-4
+returns-in_default-4 c = none_of_three c.args.bytes.now (search rules) (search rules) (sym c.if-is_one_byte.ensures) (sym c.if-is_two_bytes.ensures) (sym c.if-is_three_bytes.ensures)

@@ -27,5 +27,5 @@ returns-in-Some-2 c =
     let e = c.in-Some.ensures in
     record {
       answer = written s i _ c.in-Some.c e.answer ne c.len_utf8.ensures.len;
-      ends_within = λ lt. (omega (arith, c.len_utf8.ensures.lower-bound), omega (arith, c.len_utf8.ensures.len, written_within s i c.in-Some.c (e.read_is_encoded c.in-Some.c refl ne) lt));
+      ends_within = λ lt. (omega (arith, c.len_utf8.ensures.lower_bound), omega (arith, c.len_utf8.ensures.len, written_within s i c.in-Some.c (e.read_is_encoded c.in-Some.c refl ne) lt));
     }
