@@ -77,8 +77,8 @@ pub fn leave_path(tokenizer: &mut Tokenizer)
 impl<S: PunctuationSet> Engine<S> {
     // The kind of the character at the point.
     pub fn kind(&mut self) -> CharacterKind
-        ensures kind { result ≡ kind_at (member self.old.set) self.old.tokenizer.note.items self.old.tokenizer.cursor.point.index }
-        ensures meaning_stays { member self.new.set ≡ member self.old.set }
+        ensures kind { result ≡ kind_at (S.member self.old.set) self.old.tokenizer.note.items self.old.tokenizer.cursor.point.index }
+        ensures meaning_stays { S.member self.new.set ≡ S.member self.old.set }
         ensures tokenizer_stays { self.new.tokenizer ≡ self.old.tokenizer }
     {
         let index = self.tokenizer.cursor.point.index;
@@ -98,8 +98,8 @@ impl<S: PunctuationSet> Engine<S> {
     // In a domain, at none of its joints: an Other character goes on with it.
     fn domain_by_kind(&mut self)
         requires { Within (vec_len self.old.tokenizer.note) self.old.tokenizer.cursor }
-        ensures goes { machine self.new.tokenizer ≡ (if is_other (kind_here (member self.old.set) (machine self.old.tokenizer)) then next DomainInside (saw true (machine self.old.tokenizer)) else with_state (Retry DomainAfter) (machine self.old.tokenizer)) }
-        ensures meaning_stays { member self.new.set ≡ member self.old.set }
+        ensures goes { machine self.new.tokenizer ≡ (if is_other (kind_here (S.member self.old.set) (machine self.old.tokenizer)) then next DomainInside (saw true (machine self.old.tokenizer)) else with_state (Retry DomainAfter) (machine self.old.tokenizer)) }
+        ensures meaning_stays { S.member self.new.set ≡ S.member self.old.set }
     {
         match self.kind() {
             CharacterKind::Other => {
@@ -115,8 +115,8 @@ impl<S: PunctuationSet> Engine<S> {
     // In a path, at a byte that no trail begins with: white space ends it.
     fn path_by_kind(&mut self)
         requires { Within (vec_len self.old.tokenizer.note) self.old.tokenizer.cursor }
-        ensures goes { machine self.new.tokenizer ≡ (if is_white_space (kind_here (member self.old.set) (machine self.old.tokenizer)) then with_state (Retry PathAfter) (machine self.old.tokenizer) else next PathInside (machine self.old.tokenizer)) }
-        ensures meaning_stays { member self.new.set ≡ member self.old.set }
+        ensures goes { machine self.new.tokenizer ≡ (if is_white_space (kind_here (S.member self.old.set) (machine self.old.tokenizer)) then with_state (Retry PathAfter) (machine self.old.tokenizer) else next PathInside (machine self.old.tokenizer)) }
+        ensures meaning_stays { S.member self.new.set ≡ S.member self.old.set }
     {
         match self.kind() {
             CharacterKind::Whitespace => self.tokenizer.go(State::Retry(StateName::PathAfter)),
@@ -128,8 +128,8 @@ impl<S: PunctuationSet> Engine<S> {
 
     // In a trail, at no item: white space stops it.
     fn trail_by_kind(&mut self)
-        ensures goes { machine self.new.tokenizer ≡ (if is_white_space (kind_here (member self.old.set) (machine self.old.tokenizer)) then with_state Ok (machine self.old.tokenizer) else with_state Nok (machine self.old.tokenizer)) }
-        ensures meaning_stays { member self.new.set ≡ member self.old.set }
+        ensures goes { machine self.new.tokenizer ≡ (if is_white_space (kind_here (S.member self.old.set) (machine self.old.tokenizer)) then with_state Ok (machine self.old.tokenizer) else with_state Nok (machine self.old.tokenizer)) }
+        ensures meaning_stays { S.member self.new.set ≡ S.member self.old.set }
     {
         match self.kind() {
             CharacterKind::Whitespace => self.tokenizer.go(State::Ok),
@@ -140,8 +140,8 @@ impl<S: PunctuationSet> Engine<S> {
     // Calls a state: what it does is decided by its name and the byte shown.
     pub fn call(&mut self, name: StateName)
         requires { Callable (machine self.old.tokenizer) }
-        ensures called { machine self.new.tokenizer ≡ call (member self.old.set) name (machine self.old.tokenizer) }
-        ensures meaning_stays { member self.new.set ≡ member self.old.set }
+        ensures called { machine self.new.tokenizer ≡ call (S.member self.old.set) name (machine self.old.tokenizer) }
+        ensures meaning_stays { S.member self.new.set ≡ S.member self.old.set }
     {
         match (name, self.tokenizer.cursor.current) {
             // ---- text

@@ -15,8 +15,8 @@ pub enum CharacterKind {
 
 // The kind of the character at `index`. The end of the note, and all past it, is white space.
 pub fn kind_after_index<S: PunctuationSet>(bytes: &[u8], index: usize, set: &mut S) -> CharacterKind
-    ensures kind { result ≡ kind_at (member set.old) bytes.now index }
-    ensures meaning_stays { member set.new ≡ member set.old }
+    ensures kind { result ≡ kind_at (S.member set.old) bytes.now index }
+    ensures meaning_stays { S.member set.new ≡ S.member set.old }
 {
     match char_at(bytes, index) {
         None => CharacterKind::Whitespace,
@@ -26,8 +26,8 @@ pub fn kind_after_index<S: PunctuationSet>(bytes: &[u8], index: usize, set: &mut
 
 // The set is asked of characters from 128 up alone, and not of white space.
 pub fn classify<S: PunctuationSet>(c: char, set: &mut S) -> CharacterKind
-    ensures kind { result ≡ kind_of (member set.old) c }
-    ensures meaning_stays { member set.new ≡ member set.old }
+    ensures kind { result ≡ kind_of (S.member set.old) c }
+    ensures meaning_stays { S.member set.new ≡ S.member set.old }
 {
     if c.is_ascii() {
         classify_ascii(c)

@@ -15,8 +15,8 @@ use punctuation::sets::PunctuationSet;
 // Calls states until none is due, or the allowance is made and one is.
 pub fn run<S: PunctuationSet>(engine: &mut Engine<S>, until: Until, allowance: u64) -> Ran
     requires { ∥ Sound engine.old.tokenizer.note.items (settled (machine engine.old.tokenizer)) ∥₁ }
-    ensures ran { outcome_of (machine engine.new.tokenizer) result ≡ run (member engine.old.set) until allowance (machine engine.old.tokenizer) }
-    ensures meaning_stays { member engine.new.set ≡ member engine.old.set }
+    ensures ran { outcome_of (machine engine.new.tokenizer) result ≡ run (S.member engine.old.set) until allowance (machine engine.old.tokenizer) }
+    ensures meaning_stays { S.member engine.new.set ≡ S.member engine.old.set }
 {
     let mut steps = 0;
     loop {

@@ -35,8 +35,8 @@ impl<S: PunctuationSet> Reader<S> {
     // Reads the bytes before `to`, with at most so many state calls. Refused: 3 an empty reader; 4 unless loaded; 5 an allowance
     // of 0; 6 a `to` below the mark or above the length.
     pub fn push(&mut self, to: usize, allowance: u64) -> Result<Ran, Fault>
-        ensures answer { (view self.new, result) ≡ push (member self.old.engine.set) (view self.old) to allowance }
-        ensures meaning_stays { member self.new.engine.set ≡ member self.old.engine.set }
+        ensures answer { (view self.new, result) ≡ push (S.member self.old.engine.set) (view self.old) to allowance }
+        ensures meaning_stays { S.member self.new.engine.set ≡ S.member self.old.engine.set }
         ensures refused { OnErr result (self.new ≡ self.old) }
     {
         if is_empty(self.phase) {
@@ -61,8 +61,8 @@ impl<S: PunctuationSet> Reader<S> {
     // Refused: 3 an empty reader; 4 where the end is done; 5 an allowance of 0; 7, where the end begins, if the mark is below the
     // length or the last push paused.
     pub fn end(&mut self, allowance: u64) -> Result<Ran, Fault>
-        ensures answer { (view self.new, result) ≡ end (member self.old.engine.set) (view self.old) allowance }
-        ensures meaning_stays { member self.new.engine.set ≡ member self.old.engine.set }
+        ensures answer { (view self.new, result) ≡ end (S.member self.old.engine.set) (view self.old) allowance }
+        ensures meaning_stays { S.member self.new.engine.set ≡ S.member self.old.engine.set }
         ensures refused { OnErr result (self.new ≡ self.old) }
     {
         if is_empty(self.phase) {
