@@ -1,15 +1,15 @@
 -- What the table of byte sequences reads: nothing where the bytes are too few, what was written, and only what was written.
 -- Assumes nothing.
-use Rattle.std.proofs.Common.{◌≡◌, ℕ, ◌+◌, ◌-◌, ◌*◌, ◌/◌, ◌%◌, ◌<◌, ◌≤◌, Bool, true, false, cond, ◌&&◌, ◌||◌, T, ltb, leb, ◌⊎◌, List, [], ◌∷◌, ◌++◌, length, get_or, take, drop, Some, None, Option, sym, refl, ap, ◌∙◌, subst, inl, inr, ⊎_elim, arith, leb→le, length-append}
+use Rattle.std.proofs.Common.{◌≡◌, ℕ, ◌+◌, ◌-◌, ◌*◌, ◌/◌, ◌%◌, ◌<◌, ◌≤◌, true, false, T, leb, ◌⊎◌, List, [], ◌∷◌, ◌++◌, length, get_or, take, drop, Some, None, Option, sym, refl, ap, ◌∙◌, subst, inl, inr, ⊎_elim, arith, leb→le, length-append}
 use lib.Utf8.{scalar, encode, next, scalar_cases, low_scalar}
-use Rattle.std.proofs.lemmas.Bool.{cond-true, cond-false, and_parts, and_right, and_from, or_from, or_cases, cases_Bool, cases_lt, leb-true, le-leb, lt-ltb, le-ltb, true≢false}
+use Rattle.std.proofs.lemmas.Bool.{cond-true, cond-false, and_right, or_from, cases_Bool, cases_lt, lt-ltb, le-ltb, true≢false}
 use Rattle.std.proofs.lemmas.List.{take_rest, at_drop_all}
 use Rattle.std.proofs.lemmas.Str.{length-encode, len_utf8_bounds}
 use Rattle.std.proofs.lemmas.Bool.Decides.{nat_tests}
 use Rattle.std.specs.Option.{SomeIff}
 use Rattle.text.specs.Bytes.{within}
 use Rattle.characters.specs.CharacterExamples.{CharactersRead}
-use Rattle.characters.specs.Utf8.{Row, one_byte, two_bytes, three_bytes, four_bytes, begin_with, shaped, six_bits_each, value, character, character_at, EncodedIsRead, ReadIsEncoded}
+use Rattle.characters.specs.Utf8.{Row, one_byte, two_bytes, three_bytes, four_bytes, begin_with, shaped, value, character, character_at, EncodedIsRead, ReadIsEncoded}
 
 -- ---- bytes that are too few
 

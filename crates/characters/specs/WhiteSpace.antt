@@ -1,6 +1,6 @@
 -- Which characters are white space.
 -- Assumes nothing.
-use Rattle.std.specs.Prelude.{ℕ, Bool, true, false, ◌||◌, List, [], ◌∷◌}
+use Rattle.std.specs.Prelude.{ℕ, Bool, false, ◌||◌, List, [], ◌∷◌}
 use Rattle.text.specs.Bytes.{within}
 
 -- c is in one of these ranges, each from its first to its last value

@@ -1,6 +1,6 @@
 -- How many bytes the character at a place has.
 -- Assumes nothing.
-use Rattle.std.specs.Prelude.{◌≡◌, ℕ, ◌+◌, ◌<◌, ◌≤◌, Bool, cond, List, [], ◌∷◌, length, take, drop, Some, None, Option, ◌==◌}
+use Rattle.std.specs.Prelude.{ℕ, ◌+◌, ◌<◌, ◌≤◌, cond, List, [], ◌∷◌, length, take, drop, Some, None, Option, ◌==◌}
 use Rattle.std.proofs.Math.Utf8.{encode}
 use Rattle.text.specs.Bytes.{same}
 use Rattle.characters.specs.Utf8.{character_at}

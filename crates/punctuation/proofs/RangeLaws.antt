@@ -1,8 +1,7 @@
 -- What is taken up is the longest lawful front, and what the check says of a list.
 -- Assumes nothing.
-use Rattle.std.proofs.Common.{◌≡◌, ℕ, ◌+◌, ◌*◌, ◌/◌, ◌%◌, ◌<◌, ◌≤◌, min, Bool, true, false, cond, not, ◌||◌, eqb, ltb, List, length, Ok, Err, Result, sym, ap, ◌∙◌, subst, ⊎_elim, arith}
+use Rattle.std.proofs.Common.{◌≡◌, ℕ, ◌%◌, ◌≤◌, min, false, not, eqb, ltb, List, length, Ok, Err, sym, ap, ◌∙◌, subst, ⊎_elim, arith}
 use Rattle.std.proofs.lemmas.Bool.{cases_Bool, cond-true, cond-false, or_parts, eqb-false, ltb-false, ltb-true, not-true, not-false}
-use Rattle.text.specs.declared.refusals.Fault.{Fault}
 use Rattle.text.specs.declared.refusals.Fault.TheVariants.{BadRangeListLength, UnlawfulRange}
 use Rattle.punctuation.specs.RangeLists.{range_count, lawful, lawful_front, taken_up, bad_length, range_list_check, LongestLawfulFront, AcceptedIsTakenWhole, RefusedIsFirstUnlawful}
 use Rattle.text.proofs.Firsts.{seek-first}

@@ -1,6 +1,6 @@
 -- Lawful ranges ascend, so that a number is found among them by halves. And how the first unlawful one is looked for.
 -- Assumes nothing.
-use Rattle.std.proofs.Common.{◌≡◌, ℕ, zero, suc, ◌+◌, ◌-◌, ◌*◌, ◌/◌, ◌<◌, ◌≤◌, min, Bool, true, false, not, ◌&&◌, ◌||◌, ltb, leb, ◌⊎◌, List, length, sym, refl, ap, ◌∙◌, subst, inl, inr, ⊎_elim, add-one, arith}
+use Rattle.std.proofs.Common.{◌≡◌, ℕ, zero, suc, ◌+◌, ◌-◌, ◌*◌, ◌<◌, ◌≤◌, min, Bool, true, false, not, ◌&&◌, leb, List, length, sym, refl, ap, ◌∙◌, subst, inl, inr, ⊎_elim, add-one, arith}
 use Rattle.std.proofs.lemmas.Bool.{and_parts, or_left, or_right, or_from, leb-true, ltb-true, not-false, cases_eq, cases_lt, cond-true, cond-false}
 use Rattle.text.specs.Bytes.{within, seek}
 use Rattle.punctuation.specs.RangeLists.{first_of, last_of, range_count, lawful, beyond_the_one_before, lawful_front, taken_up, in_first}

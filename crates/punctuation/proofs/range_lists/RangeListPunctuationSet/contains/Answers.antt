@@ -1,4 +1,4 @@
-use Rattle.std.proofs.Common.{ℕ, ◌<◌, sym, subst, arith}
+use Rattle.std.proofs.Common.{arith}
 use Rattle.punctuation.proofs.RangeSearch.{taken_within, taken_lawful}
 use Rattle.punctuation.proofs.range_lists.RangeListPunctuationSet.contains.Goals as goal
 
