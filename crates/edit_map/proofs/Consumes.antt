@@ -62,7 +62,7 @@ pub record Consumed {A : Type 0} (m m' : EditMap) (store list out out' : List A)
   pub answer : r ≡ consume_answer (length store) (kept_count m) (edits_of m store) list out
   pub written : out' ≡ after r (overwritten (applied (edits_of m store) list) out) out
   pub as_new : IfOk r (λ _. AsNew m')
-  pub IfErr : IfErr r (λ _. m' ≡ m)
+  pub refused : IfErr r (λ _. m' ≡ m)
   pub length : IfOk r (λ n. n + removed (edits_of m store) ≡ length list + stored (edits_of m store))
   pub one_at_a_time : IfOk r (λ _. applied (edits_of m store) list ≡ one_at_a_time (edits_of m store) list)
   pub values_kept : IfOk r (λ _. ValuesKept (edits_of m store) list)

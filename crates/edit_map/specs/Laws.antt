@@ -38,7 +38,7 @@ abbrev pub Outside : {A : Type 0} → List (Edit A) → ℕ → Type 0
 Outside [] i = Unit {0}
 Outside (e ∷ es) i = ((i < e.place) ⊎ (e.place + e.count ≤ i)) × Outside es i
 
--- how many elements of the new list stand before the one that had the number i; `from` as at `applied-from`
+-- how many elements of the new list stand before the one that had the number i; `from` as at `applied_from`
 abbrev pub moved_from : {A : Type 0} → ℕ → List (Edit A) → ℕ → ℕ
 moved_from from [] i = i - from
 moved_from from (e ∷ es) i =

@@ -31,6 +31,6 @@ pub record Added {A : Type 0} (side : Side) (place count : ℕ) (xs : List A) (m
   pub kept : kept_count m' ≡ after r (kept_count m + length xs) (kept_count m)
   pub rising : Rising 0 (edits_of m' store')
   pub rest : drop (kept_count m') store' ≡ drop (kept_count m') store
-  pub IfErr : IfErr r (λ _. (m' ≡ m) × (store' ≡ store))
+  pub refused : IfErr r (λ _. (m' ≡ m) × (store' ≡ store))
   pub no_effect : idle count xs ≡ true → (m' ≡ m) × (store' ≡ store)
   pub order_free : IsOrderFree side place count xs (edits_of m store)

@@ -1,5 +1,5 @@
 use Rattle.std.proofs.Common.{◌+◌, take, vec_items, refl, ap, ◌∙◌, arith}
-use Rattle.edit_map.specs.Entries.{total, offset}
+use Rattle.edit_map.specs.Entries.{total}
 use Rattle.edit_map.proofs.Ranks.{here_old, here_within}
 use Rattle.edit_map.proofs.Adds.{offset-within, grown_here}
 use Rattle.edit_map.proofs.map.add.widen.Goals as goal
