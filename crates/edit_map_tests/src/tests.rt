@@ -57,9 +57,9 @@ impl Trial {
     }
 
     // What the store holds, and the whole buffer.
-    fn holds(&self, store: &[u8], out: &[u8]) -> Result<(), Fail> {
-        assert_eq!(&self.store[0..8], store);
-        assert_eq!(&self.out[0..16], out);
+    fn holds(&self, rt: &impl Abort, store: &[u8], out: &[u8]) -> Result<(), Fail> {
+        assert_eq!(rt; &self.store[0..8], store);
+        assert_eq!(rt; &self.out[0..16], out);
         Ok(())
     }
 
@@ -88,10 +88,10 @@ fn no_edits(rt: HostRuntime) -> Result<(), Fail> {
     let mut trial = Trial::new(&rt)?;
     assert!(rt; trial.map.is_empty());
     assert_eq!(rt; trial.make(b"abc"), (0, 3));
-    trial.holds(b"        ", b"abc.............")?;
+    trial.holds(&rt, b"        ", b"abc.............")?;
     assert_eq!(rt; trial.make(b""), (0, 0));
     assert_eq!(rt; trial.make(b"0123456789abcdef"), (0, 16));
-    trial.holds(b"        ", b"0123456789abcdef")?;
+    trial.holds(&rt, b"        ", b"0123456789abcdef")?;
     assert_eq!(rt; trial.make(b"0123456789abcdefg"), (16, 17));
     Ok(())
 }
@@ -104,7 +104,7 @@ fn first_and_last_place(rt: HostRuntime) -> Result<(), Fail> {
     assert_eq!(rt; trial.add(3, 1, b""), (0, 0));
     assert_eq!(rt; trial.sizes(), (3, 3));
     assert_eq!(rt; trial.make(b"abcde"), (0, 6));
-    trial.holds(b"<>!     ", b"<>bce!..........")?;
+    trial.holds(&rt, b"<>!     ", b"<>bce!..........")?;
     assert_eq!(rt; trial.add(0, 5, b""), (0, 0));
     assert_eq!(rt; trial.make(b"abcde"), (0, 0), "the whole list is removed");
     assert_eq!(rt; trial.make(b"abcde"), (0, 5), "no edit is left");
@@ -118,7 +118,7 @@ fn an_edit_past_the_end(rt: HostRuntime) -> Result<(), Fail> {
     assert_eq!(rt; trial.add(4, 2, b"y"), (0, 0));
     assert_eq!(rt; trial.make(b"abcde"), (13, 1));
     assert_eq!(rt; trial.make(b""), (13, 0));
-    trial.holds(b"xy      ", b"................")?;
+    trial.holds(&rt, b"xy      ", b"................")?;
     assert_eq!(rt;
         trial.make(b"abcdef"),
         (0, 5),
@@ -189,8 +189,8 @@ fn every_second(rt: &impl Abort, trial: &mut Trial) -> Result<(), Fail> {
         told_size(trial.map.consume(&trial.store, &list, &mut out)),
         (0, 1025)
     );
-    assert_eq!(rt; &out[0..3], b"axa");
-    assert_eq!(rt; &out[1023..1026], b"aa.");
+    assert_eq!(rt; &out[0..3], b"axa".as_slice());
+    assert_eq!(rt; &out[1023..1026], b"aa.".as_slice());
     Ok(())
 }
 
@@ -200,9 +200,9 @@ fn a_full_store(rt: HostRuntime) -> Result<(), Fail> {
     assert_eq!(rt; trial.add(2, 0, b"1234567"), (0, 0));
     assert_eq!(rt; trial.add(1, 0, b"ab"), (15, 0));
     assert_eq!(rt; trial.add_before(2, 0, b"ab"), (15, 0));
-    trial.holds(b"1234567 ", b"................")?;
+    trial.holds(&rt, b"1234567 ", b"................")?;
     assert_eq!(rt; trial.add(1, 0, b"a"), (0, 0), "the store is just full");
-    trial.holds(b"a1234567", b"................")?;
+    trial.holds(&rt, b"a1234567", b"................")?;
     assert_eq!(rt; trial.add(9, 1, b""), (0, 0));
     assert_eq!(rt;
         trial.add_in(7, 8, 1, b""),
@@ -228,10 +228,10 @@ fn a_store_or_a_buffer_that_is_short(rt: HostRuntime) -> Result<(), Fail> {
         "15 is tested before 16"
     );
     assert_eq!(rt; trial.make_in(3, 6, b"abcde"), (16, 7));
-    trial.holds(b"xyz     ", b"................")?;
+    trial.holds(&rt, b"xyz     ", b"................")?;
     assert_eq!(rt; trial.sizes(), (1, 3));
     assert_eq!(rt; trial.make_in(3, 7, b"abcde"), (0, 7));
-    trial.holds(b"xyz     ", b"axyzcde.........")?;
+    trial.holds(&rt, b"xyz     ", b"axyzcde.........")?;
     assert_eq!(rt; trial.sizes(), (0, 0));
     Ok(())
 }
@@ -246,7 +246,7 @@ fn runs_that_touch(rt: HostRuntime) -> Result<(), Fail> {
         (0, 7),
         "5 is the first element behind the run"
     );
-    trial.holds(b"xy      ", b"abxyghi.........")
+    trial.holds(&rt, b"xy      ", b"abxyghi.........")
 }
 
 #[test]
@@ -274,12 +274,12 @@ fn two_adds_at_a_place(rt: HostRuntime) -> Result<(), Fail> {
     assert_eq!(rt; trial.add(1, 1, b"12"), (0, 0));
     assert_eq!(rt; trial.add(1, 1, b"34"), (0, 0));
     assert_eq!(rt; trial.make(b"abcd"), (0, 7));
-    trial.holds(b"1234|   ", b"a1234|d.........")?;
+    trial.holds(&rt, b"1234|   ", b"a1234|d.........")?;
     assert_eq!(rt; trial.add(3, 0, b"|"), (0, 0));
     assert_eq!(rt; trial.add_before(1, 1, b"12"), (0, 0));
     assert_eq!(rt; trial.add_before(1, 1, b"34"), (0, 0));
     assert_eq!(rt; trial.make(b"abcd"), (0, 7));
-    trial.holds(b"3412|   ", b"a3412|d.........")
+    trial.holds(&rt, b"3412|   ", b"a3412|d.........")
 }
 
 #[test]
@@ -289,12 +289,12 @@ fn an_add_and_one_before_it(rt: HostRuntime) -> Result<(), Fail> {
     assert_eq!(rt; trial.add(1, 1, b"34"), (0, 0));
     assert_eq!(rt; trial.add(0, 0, b"|"), (0, 0));
     assert_eq!(rt; trial.make(b"abcd"), (0, 7));
-    trial.holds(b"|1234   ", b"|a1234d.........")?;
+    trial.holds(&rt, b"|1234   ", b"|a1234d.........")?;
     assert_eq!(rt; trial.add(1, 1, b"12"), (0, 0));
     assert_eq!(rt; trial.add_before(1, 1, b"34"), (0, 0));
     assert_eq!(rt; trial.add_before(0, 0, b"|"), (0, 0));
     assert_eq!(rt; trial.make(b"abcd"), (0, 7));
-    trial.holds(b"|3412   ", b"|a3412d.........")
+    trial.holds(&rt, b"|3412   ", b"|a3412d.........")
 }
 
 #[test]
