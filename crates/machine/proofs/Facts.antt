@@ -1,15 +1,14 @@
 -- What the invariant gives: room in the tables, bounds, and the law of the events.
 -- Assumes nothing.
-use Rattle.std.proofs.Common.{◌≡◌, ℕ, zero, suc, ◌+◌, ◌-◌, ◌*◌, ◌<◌, ◌≤◌, Bool, true, false, cond, not, ◌&&◌, ◌||◌, eqb, ltb, ◌⊎◌, List, [], ◌∷◌, ◌++◌, length, get_or, Some, None, Option, sym, refl, ap, ◌∙◌, subst, inl, inr, ⊎_elim, arith}
-use Rattle.std.proofs.lemmas.Bool.{cases_Bool, cases_lt, and_from, cond-true, eq-eqb, le-leb, lt-ltb, le-ltb}
+use Rattle.std.proofs.Common.{◌≡◌, ℕ, ◌*◌, ◌<◌, ◌≤◌, true, false, not, ltb, List, [], ◌∷◌, ◌++◌, length, Some, None, Option, sym, refl, ap, ◌∙◌, subst, inl, inr, ⊎_elim, arith}
+use Rattle.std.proofs.lemmas.Bool.{cases_lt, and_from, cond-true, eq-eqb, le-leb, lt-ltb, le-ltb}
 use Rattle.std.proofs.lemmas.List.{length_push}
-use Rattle.text.specs.Places.{after_tab, place_at, point_at}
+use Rattle.text.specs.Places.{place_at, point_at}
 use Rattle.text.proofs.Walks.{place-line, place-column}
 use Rattle.machine.specs.declared.attempts.Attempt.{Attempt}
 use Rattle.machine.specs.declared.cursors.Cursor.{Cursor}
 use Rattle.machine.specs.declared.cursors.Registers.{Registers}
 use Rattle.machine.specs.declared.events.Event.{Event}
-use Rattle.machine.specs.declared.events.EventKind.{EventKind}
 use Rattle.machine.specs.declared.events.EventKind.TheVariants.{Enter, Exit}
 use Rattle.machine.specs.declared.events.Name.{Name}
 use Rattle.machine.specs.declared.events.Name.TheVariants as name
@@ -21,7 +20,7 @@ use Rattle.machine.specs.Moves.{Machine, made_of}
 use Rattle.machine.specs.States.{at_end}
 use Rattle.machine.specs.Runs.{cleared}
 use Rattle.machine.specs.Laws.{event_at, Segment, events_of, Tiles, Tiled, same_name, open_after, placed, in_text_order, PointBounded, RegistersBounded, CapturedBounded, AttemptsBounded, Lawful}
-use Rattle.machine.specs.Invariant.{Plain, Edge, index_shown, byte_shown, cursor_at, Shows, shows, ShowsSpace, space, Past, beyond, amid_tab, ready, Closed, none, more, Web, www, protocol, name_of, leaves, link_attempt, Tried, counting, noting, InTrail, in_trail, in_bracket, in_start, in_ref, Stage, p_prefix, p_slashes, w_prefix, w_after, domain, domain_at, domain_after, path, path_at, path_after, trail, left, Fit, before, line, text, inside, p_start, w_start, linked, Sound, next, retry, over, depth, opens, Ready}
+use Rattle.machine.specs.Invariant.{index_shown, Shows, shows, space, Past, beyond, amid_tab, ready, Closed, none, more, Web, www, protocol, name_of, leaves, link_attempt, counting, noting, InTrail, in_trail, in_bracket, in_start, in_ref, Stage, p_prefix, p_slashes, w_prefix, w_after, domain, domain_at, domain_after, path, path_at, path_after, trail, left, Fit, before, line, text, inside, p_start, w_start, linked, Sound, next, retry, over, depth, opens, Ready}
 use Rattle.machine.proofs.Walk.{shows-at, shows-end, index_low, index_high, index-inside, place_low}
 use Rattle.machine.proofs.Keeps.{shown-inside}
 

@@ -1,12 +1,12 @@
 -- Every step keeps the invariant, whatever the set means.
 -- Assumes nothing.
-use Rattle.std.proofs.Common.{◌≡◌, ℕ, zero, suc, ◌+◌, ◌-◌, ◌*◌, ◌<◌, ◌≤◌, Bool, true, false, cond, not, ◌&&◌, ◌||◌, eqb, ltb, ◌⊎◌, List, [], ◌∷◌, ◌++◌, length, get_or, take, drop, Some, None, codes, Option, sym, refl, ap, ◌∙◌, subst, inl, inr, ⊎_elim, arith}
+use Rattle.std.proofs.Common.{◌≡◌, ℕ, ◌+◌, ◌-◌, ◌<◌, ◌≤◌, Bool, true, false, cond, not, ◌&&◌, ◌||◌, eqb, ltb, List, [], ◌∷◌, ◌++◌, length, get_or, take, Some, None, codes, Option, sym, refl, ap, ◌∙◌, subst, ⊎_elim, arith}
 use lib.Seq.{take-length, take-append_seam}
 use Rattle.std.proofs.lemmas.Bool.{cases_Bool, cases_lt, cond-false, cond_both, and_parts, or_parts, true≢false, ltb-true, eqb-true}
 use Rattle.text.specs.Ascii.{letter, reads}
-use Rattle.text.specs.Bytes.{among, within, part}
+use Rattle.text.specs.Bytes.{among, part}
 use Rattle.punctuation.specs.Kinds.{kind_at}
-use Rattle.text.specs.Places.{after_tab, place_at, point_at}
+use Rattle.text.specs.Places.{after_tab, place_at}
 use Rattle.machine.specs.declared.attempts.Attempt.{Attempt}
 use Rattle.machine.specs.declared.cursors.Cursor.{Cursor}
 use Rattle.machine.specs.declared.cursors.Registers.{Registers}
@@ -19,12 +19,12 @@ use Rattle.machine.specs.declared.states.State.{State}
 use Rattle.machine.specs.declared.states.State.TheVariants.{Next, Retry, Ok, Nok}
 use Rattle.machine.specs.declared.states.StateName.{StateName}
 use Rattle.machine.specs.declared.states.StateName.TheVariants.{Before, Line, Data, Inside, ProtocolStart, ProtocolPrefixInside, ProtocolSlashesInside, ProtocolAfter, WwwStart, WwwPrefixInside, WwwPrefixAfter, WwwAfter, DomainInside, DomainAtPunctuation, DomainAfter, PathInside, PathAtPunctuation, PathAfter, Trail, TrailBracketAfter, TrailCharRefStart, TrailCharRefInside}
-use Rattle.machine.specs.Cursors.{crlf_at, event, line_end, consumed_at}
+use Rattle.machine.specs.Cursors.{event, line_end, consumed_at}
 use Rattle.machine.specs.Moves.{Machine, made_of, settled}
 use Rattle.machine.specs.States.{on, at_end, is, begins_protocol, begins_www, ends_data, may_precede_www, continuation, hyphen_or_continuation, may_end_path, trail_mark, after_bracket, is_white_space, is_other, call}
-use Rattle.machine.specs.Runs.{cleared, at_start, beginning}
+use Rattle.machine.specs.Runs.{cleared, beginning}
 use Rattle.machine.specs.Laws.{event_at}
-use Rattle.machine.specs.Invariant.{Plain, Edge, index_shown, byte_shown, cursor_at, Shows, shows, ShowsSpace, space, Past, beyond, amid_tab, ready, Closed, none, more, Web, www, protocol, name_of, leaves, link_attempt, part_attempt, check_attempt, Tried, starting, counting, noting, InTrail, in_trail, in_bracket, in_start, in_ref, Stage, p_prefix, p_slashes, w_prefix, w_after, domain, domain_at, domain_after, path, path_at, path_after, trail, left, Fit, before, line, text, inside, p_start, w_start, linked, Sound, next, retry, over}
+use Rattle.machine.specs.Invariant.{Plain, Edge, index_shown, byte_shown, cursor_at, Shows, shows, space, Past, beyond, amid_tab, ready, Closed, none, more, Web, www, protocol, name_of, leaves, link_attempt, part_attempt, check_attempt, Tried, starting, counting, noting, InTrail, in_trail, in_bracket, in_start, in_ref, Stage, p_prefix, p_slashes, w_prefix, w_after, domain, domain_at, domain_after, path, path_at, path_after, trail, left, Fit, before, line, text, inside, p_start, w_start, linked, Sound, next, retry, over}
 use Rattle.machine.proofs.Walk.{shown_test, shows-at, shows-end, plain_test, plain_kind, plain_other, plain_no_crlf, eaten, ready_at, ready-before, before_edge, edge_after, index_plain, index_low, index-inside, kind-index, tab_no_crlf, tab_last, tab-more, ready-tab, at-tab, past-line_end, edge_line_end}
 
 -- a state looks at what it is shown, and what it answers is settled

@@ -1,9 +1,8 @@
 -- The room that the tables need, and notes that need it.
 -- Assumes nothing.
-use Rattle.std.proofs.Common.{◌≡◌, ℕ, ◌*◌, ◌<◌, ◌≤◌, Bool, false, List, [], ◌∷◌, length, codes, refl, arith}
+use Rattle.std.proofs.Common.{ℕ, false, [], ◌∷◌, codes, refl, arith}
 use Rattle.machine.specs.declared.cursors.Until.TheVariants.{Mark, End}
-use Rattle.machine.specs.Runs.{beginning}
-use Rattle.machine.specs.Laws.{Piece, worked}
+use Rattle.machine.specs.Laws.{Piece}
 use Rattle.machine.specs.Room.{AttemptsFit, AttemptsReach, NamesFit, NamesReach, EventsFit, EventsReach}
 use Rattle.machine.proofs.Turns.{lawful_at_every_moment}
 

@@ -1,7 +1,7 @@
 -- How a run is split does not matter.
 -- Assumes nothing.
-use Rattle.std.proofs.Common.{◌≡◌, ℕ, zero, suc, ◌+◌, ◌-◌, ◌<◌, ◌≤◌, Bool, true, false, cond, not, ◌&&◌, ◌||◌, ltb, leb, ◌⊎◌, List, [], ◌∷◌, length, Some, None, Option, sym, refl, ap, ◌∙◌, subst, inl, inr, ⊎_elim, zero-add, arith}
-use Rattle.std.proofs.lemmas.Bool.{cases_Bool, cases_lt, cond-true, cond-false, cond_both, and_parts, and_right, and_from, true≢false, both_ways, lt-ltb, ltb-true, leb-true}
+use Rattle.std.proofs.Common.{◌≡◌, ℕ, zero, suc, ◌+◌, ◌-◌, ◌≤◌, Bool, true, false, cond, not, ◌&&◌, ◌||◌, ltb, List, [], ◌∷◌, length, Some, None, Option, sym, refl, ap, ◌∙◌, ⊎_elim, zero-add, arith}
+use Rattle.std.proofs.lemmas.Bool.{cases_lt, cond-true, cond-false, cond_both, and_parts, and_right, and_from, true≢false, lt-ltb, ltb-true, leb-true}
 use Rattle.machine.specs.declared.attempts.Attempt.{Attempt}
 use Rattle.machine.specs.declared.cursors.Cursor.{Cursor}
 use Rattle.machine.specs.declared.cursors.Registers.{Registers}
@@ -12,7 +12,7 @@ use Rattle.machine.specs.declared.events.Name.{Name}
 use Rattle.machine.specs.declared.states.State.{State}
 use Rattle.machine.specs.declared.states.State.TheVariants.{Next, Retry, Ok, Nok}
 use Rattle.machine.specs.declared.states.StateName.{StateName}
-use Rattle.machine.specs.Cursors.{crlf_at, next_index}
+use Rattle.machine.specs.Cursors.{crlf_at}
 use Rattle.machine.specs.Moves.{Machine, made_of, settled_as, settled, cursor_back, events_back, names_back}
 use Rattle.machine.specs.States.{call}
 use Rattle.machine.specs.Runs.{limit, passed, prepared, may_show, due, shown, Outcome, stopped, plus, choose, none_due, run}

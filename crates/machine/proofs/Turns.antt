@@ -1,7 +1,7 @@
 -- Turns of a run: the invariant is kept in each, and so it holds at every moment.
 -- Assumes nothing.
-use Rattle.std.proofs.Common.{◌≡◌, ℕ, zero, suc, ◌+◌, ◌-◌, ◌*◌, ◌<◌, ◌≤◌, Bool, true, false, cond, not, ◌&&◌, ◌||◌, eqb, ltb, leb, ◌⊎◌, List, [], ◌∷◌, ◌++◌, length, get_or, Some, None, Option, sym, refl, ap, ◌∙◌, subst, inl, inr, ⊎_elim, zero-add, arith}
-use Rattle.std.proofs.lemmas.Bool.{cases_Bool, cases_lt, cond-true, cond-false, cond_both, and_parts, and_left, and_right, and_from, true≢false, both_ways, lt-ltb, ltb-true, ltb-false, leb-true}
+use Rattle.std.proofs.Common.{◌≡◌, ℕ, zero, suc, ◌+◌, Bool, true, false, cond, ◌&&◌, ltb, List, [], ◌∷◌, length, Some, None, Option, sym, refl, ap, ◌∙◌, subst, ⊎_elim, arith}
+use Rattle.std.proofs.lemmas.Bool.{cases_Bool, cond_both, and_parts, and_from, true≢false, both_ways, lt-ltb}
 use Rattle.machine.specs.declared.attempts.Attempt.{Attempt}
 use Rattle.machine.specs.declared.cursors.Cursor.{Cursor}
 use Rattle.machine.specs.declared.cursors.Registers.{Registers}
@@ -10,17 +10,17 @@ use Rattle.machine.specs.declared.cursors.Until.TheVariants.{Mark, End}
 use Rattle.machine.specs.declared.events.Event.{Event}
 use Rattle.machine.specs.declared.events.Name.{Name}
 use Rattle.machine.specs.declared.states.State.{State}
-use Rattle.machine.specs.declared.states.State.TheVariants.{Next, Retry, Ok, Nok}
+use Rattle.machine.specs.declared.states.State.TheVariants.{Next, Retry}
 use Rattle.machine.specs.declared.states.StateName.{StateName}
 use Rattle.machine.specs.declared.states.StateName.TheVariants.{Before, Line, Data, Inside, ProtocolStart, ProtocolPrefixInside, ProtocolSlashesInside, ProtocolAfter, WwwStart, WwwPrefixInside, WwwPrefixAfter, WwwAfter, DomainInside, DomainAtPunctuation, DomainAfter, PathInside, PathAtPunctuation, PathAfter, Trail, TrailBracketAfter, TrailCharRefStart, TrailCharRefInside}
 use Rattle.machine.specs.Cursors.{crlf_at, next_index, shown_at}
 use Rattle.machine.specs.Moves.{Machine, made_of, settled}
 use Rattle.machine.specs.States.{call}
-use Rattle.machine.specs.Runs.{beginning, limit, passes, passed, prepared, may_show, due, shown, Outcome, stopped, plus, choose, none_due, run}
-use Rattle.machine.specs.Laws.{Piece, worked, Lawful, LawfulAtEveryMoment, no_later, Part, in_parts, none_later, SplitsAlike, PausesExactly}
-use Rattle.machine.specs.Invariant.{index_shown, ready, Fit, Sound, next, retry, over, Called, called, Ready, Kept, EveryStepKeeps}
+use Rattle.machine.specs.Runs.{beginning, limit, passed, prepared, may_show, due, shown, Outcome, stopped, choose, none_due, run}
+use Rattle.machine.specs.Laws.{Piece, worked, LawfulAtEveryMoment}
+use Rattle.machine.specs.Invariant.{ready, Fit, Sound, next, retry, over, Called, called, Ready, EveryStepKeeps}
 use Rattle.machine.proofs.Walk.{crlf, crlf_lf, index_same, index-next}
-use Rattle.machine.proofs.Keeps.{after, call_keeps, sound_beginning}
+use Rattle.machine.proofs.Keeps.{call_keeps, sound_beginning}
 use Rattle.machine.proofs.Facts.{fit_ready, sound_lawful}
 
 -- ---- options

@@ -1,8 +1,8 @@
 -- What is shown at a place, and the place after a byte, a tab and a line ending.
 -- Assumes nothing.
-use Rattle.std.proofs.Common.{◌≡◌, ℕ, zero, suc, ◌+◌, ◌-◌, ◌*◌, ◌%◌, ◌<◌, ◌≤◌, Bool, true, false, cond, not, ◌&&◌, ◌||◌, eqb, ltb, ◌⊎◌, List, [], ◌∷◌, ◌++◌, length, get_or, drop, Some, None, Option, sym, refl, ap, ◌∙◌, subst, inl, inr, ⊎_elim, zero-add, add-one, arith}
+use Rattle.std.proofs.Common.{◌≡◌, ℕ, zero, suc, ◌+◌, ◌-◌, ◌%◌, ◌<◌, ◌≤◌, Bool, true, false, cond, not, ◌&&◌, ◌||◌, eqb, ltb, List, [], ◌∷◌, length, get_or, drop, Some, None, Option, sym, refl, ap, ◌∙◌, subst, ⊎_elim, zero-add, add-one, arith}
 use Rattle.std.proofs.lemmas.List.{get_or_past, at_drop_more}
-use Rattle.std.proofs.lemmas.Bool.{cases_Bool, cases_lt, cond-true, cond-false, cond_both, or_cases, and_cases, and_left, and_right, and_from, and_parts, or_from, or_left, or_right, or_parts, not_from_false, eqb-true, eq-eqb, ne_eqb, lt-ltb, le-ltb, true≢false, both_ways}
+use Rattle.std.proofs.lemmas.Bool.{cases_Bool, cases_lt, cond-true, cond-false, cond_both, or_cases, and_cases, and_left, and_right, and_from, and_parts, or_from, or_left, or_right, not_from_false, eqb-true, eq-eqb, ne_eqb, lt-ltb, le-ltb, true≢false, both_ways}
 use Rattle.punctuation.specs.declared.kinds.CharacterKind.{CharacterKind}
 use Rattle.punctuation.specs.declared.kinds.CharacterKind.TheVariants.{Whitespace, Punctuation, Other}
 use Rattle.text.specs.declared.places.Point.{Point}
@@ -12,8 +12,8 @@ use Rattle.text.specs.Places.{Place, after_tab, passed_over, ends_line, past, pl
 use Rattle.characters.specs.Utf8.{character}
 use Rattle.machine.specs.declared.cursors.Cursor.{Cursor}
 use Rattle.machine.specs.Cursors.{crlf_at, before_cr, shown_as, shown_at, line_end, tab_goes_on, moved, past_shown, consumed_at}
-use Rattle.machine.specs.States.{on, at_end, is, is_white_space, is_other}
-use Rattle.machine.specs.Invariant.{Plain, Edge, index_shown, byte_shown, cursor_at, past_cr, ready}
+use Rattle.machine.specs.States.{on, is, is_white_space, is_other}
+use Rattle.machine.specs.Invariant.{Plain, Edge, index_shown, byte_shown, cursor_at, ready}
 
 -- ---- bytes of a test
 

@@ -1,6 +1,6 @@
 -- The table of worked notes, computed.
 -- Assumes nothing.
-use Rattle.std.proofs.Common.{◌≡◌, refl}
+use Rattle.std.proofs.Common.{refl}
 use Rattle.machine.specs.WorkedNotes.{EveryNoteWorksOut, EveryPartWorksOut}
 
 pub every_note_works_out : EveryNoteWorksOut

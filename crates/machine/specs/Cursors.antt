@@ -1,6 +1,6 @@
 -- Showing and consuming bytes: what a state is shown, where the point goes, and where an event stands.
 -- Assumes nothing.
-use Rattle.std.specs.Prelude.{ℕ, ◌+◌, ◌-◌, ◌%◌, Bool, true, false, cond, not, ◌&&◌, ◌||◌, List, [], ◌∷◌, length, Some, None, Option, ◌==◌, nat_lt, slice_index}
+use Rattle.std.specs.Prelude.{ℕ, ◌+◌, ◌-◌, ◌%◌, Bool, cond, not, ◌&&◌, List, [], ◌∷◌, length, Some, None, Option, ◌==◌, nat_lt, slice_index}
 use Rattle.text.specs.declared.places.Point.{Point}
 use Rattle.text.specs.Bytes.{among}
 use Rattle.text.specs.Places.{passed_over}

@@ -1,6 +1,6 @@
 -- What every step keeps, whatever the punctuation set means: what each state may find on the stack, in the registers and among the events.
 -- Assumes nothing.
-use Rattle.std.specs.Prelude.{◌≡◌, ℕ, zero, suc, ◌+◌, ◌-◌, ◌*◌, ◌<◌, ◌≤◌, Bool, true, false, cond, not, ◌&&◌, List, [], ◌∷◌, ◌++◌, length, Some, None, Option, ◌==◌, nat_eq, nat_lt, slice_index}
+use Rattle.std.specs.Prelude.{◌≡◌, ℕ, suc, ◌+◌, ◌-◌, ◌*◌, ◌<◌, ◌≤◌, Bool, true, false, cond, not, ◌&&◌, List, [], ◌∷◌, ◌++◌, length, Some, None, Option, ◌==◌, nat_eq, nat_lt, slice_index}
 use Rattle.text.specs.declared.places.Point.{Point}
 use Rattle.text.specs.declared.spans.SpanKind.TheVariants.{Www, Protocol}
 use Rattle.text.specs.Places.{after_tab, place_at}

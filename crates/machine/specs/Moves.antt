@@ -1,6 +1,6 @@
 -- The machine as a value, the moves that its states are made of, and the settling of attempts.
 -- Assumes nothing.
-use Rattle.std.specs.Prelude.{ℕ, ◌+◌, ◌-◌, Bool, true, false, cond, not, ◌&&◌, ◌||◌, List, [], ◌∷◌, ◌++◌, length, take, Some, None, Option}
+use Rattle.std.specs.Prelude.{ℕ, ◌-◌, Bool, true, false, cond, not, ◌||◌, List, [], ◌∷◌, ◌++◌, length, take, Some, None, Option}
 use Rattle.machine.specs.declared.attempts.Attempt.{Attempt}
 use Rattle.machine.specs.declared.attempts.Progress.{Progress}
 use Rattle.machine.specs.declared.cursors.Cursor.{Cursor}

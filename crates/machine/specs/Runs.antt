@@ -1,6 +1,6 @@
 -- A run of the machine: to a mark or to the end, with at most so many state calls.
 -- Assumes nothing.
-use Rattle.std.specs.Prelude.{ℕ, zero, suc, ◌+◌, Bool, true, false, cond, not, ◌&&◌, ◌||◌, List, [], ◌∷◌, length, Some, None, Option, nat_lt}
+use Rattle.std.specs.Prelude.{ℕ, zero, suc, ◌+◌, Bool, true, false, cond, ◌&&◌, List, [], length, Some, None, Option, nat_lt}
 use Rattle.machine.specs.declared.cursors.Cursor.{Cursor}
 use Rattle.machine.specs.declared.cursors.Registers.{Registers}
 use Rattle.machine.specs.declared.cursors.Until.{Until}

@@ -1,6 +1,6 @@
 -- What each state does when it is called: one row of docs/ENGINE.md, sections 6 and 7, to a line.
 -- Assumes nothing.
-use Rattle.std.specs.Prelude.{ℕ, ◌+◌, ◌-◌, Bool, true, false, cond, not, ◌&&◌, ◌||◌, List, [], ◌∷◌, Some, None, codes, Option, ◌==◌, nat_lt}
+use Rattle.std.specs.Prelude.{ℕ, ◌+◌, ◌-◌, Bool, true, false, cond, not, ◌&&◌, ◌||◌, ◌∷◌, Some, None, codes, Option, ◌==◌, nat_lt}
 use Rattle.text.specs.Ascii.{letter, reads}
 use Rattle.text.specs.Bytes.{among, within, part}
 use Rattle.punctuation.specs.Kinds.{kind_at}
