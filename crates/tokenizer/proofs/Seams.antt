@@ -1,7 +1,7 @@
 -- Joining in place: what one more pair makes of the table, and what is left at the end.
 -- Assumes nothing.
 use Rattle.std.proofs.Common.{◌≡◌, ℕ, ◌+◌, ◌-◌, ◌<◌, ◌≤◌, true, false, not, ◌&&◌, List, [], ◌∷◌, ◌++◌, length, get_or, take, drop, set, sym, refl, ap, ◌∙◌, subst, arith}
-use Rattle.std.proofs.lemmas.List.{append_assoc, append_nil, length-drop, length-take, take-take, take-append-drop, drop-drop, drop_more, drop_all, drop-take, drop-set-lt, take_more, take_more_set, take-set, get_or-set_same, length-set}
+use Rattle.std.proofs.lemmas.List.{append_assoc, append-nil, length-drop, length-take, take-take, take-append-drop, drop-drop, drop_more, drop_all, drop-take, drop-set-lt, take_more, take_more_set, take-set, get_or-set_same, length-set}
 use Rattle.std.proofs.lemmas.Bool.{cond-true, cond-false, and_parts, eqb-true, true≢false}
 use Rattle.machine.specs.declared.events.Event.{Event}
 use Rattle.machine.specs.declared.events.EventKind.{EventKind}
@@ -174,7 +174,7 @@ all-kept : (es : List Event) (k i : ℕ) → length es ≤ i → take k es ≡ j
 all-kept es k i h =
     let n = k - 1 in
     let last = drop n (take k es) in
-    let nothing : last ++ drop i es ≡ last = ap (λ (xs : List Event). last ++ xs) (drop_all i es h) ∙ append_nil last in
+    let nothing : last ++ drop i es ≡ last = ap (λ (xs : List Event). last ++ xs) (drop_all i es h) ∙ append-nil last in
     let front : take n (take k es) ≡ take n es = take-take n k es (omega arith) in
     sym (ap (λ (xs : List Event). take n es ++ joined xs) nothing
     ∙ ap (λ (xs : List Event). take n es ++ xs) (lone last (omega (arith, length-drop n (take k es), length-take k es)))

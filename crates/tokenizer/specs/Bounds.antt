@@ -1,6 +1,6 @@
 -- What a state may count on when it is called: numbers that fit, and room in the tables. It holds at every call of every run.
 -- Assumes nothing.
-use Rattle.std.specs.Prelude.{◌≡◌, ℕ, ◌<◌, ◌≤◌, Bool, false, length}
+use Rattle.std.specs.Prelude.{◌≡◌, ℕ, ◌<◌, ◌≤◌, false, length}
 use Rattle.machine.specs.declared.cursors.Cursor.{Cursor}
 use Rattle.machine.specs.Moves.{Machine}
 use Rattle.machine.specs.States.{at_end}

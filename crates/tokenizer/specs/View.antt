@@ -1,6 +1,6 @@
 -- Which machine a tokenizer is.
 -- Assumes nothing.
-use Rattle.std.specs.Prelude.{ℕ, List, vec_items}
+use Rattle.std.specs.Prelude.{vec_items}
 use Rattle.machine.specs.Moves.{Machine, made_of}
 use Rattle.tokenizer.specs.Stack.{stack}
 use Rattle.tokenizer.specs.declared.tokenizer.Tokenizer.{Tokenizer}

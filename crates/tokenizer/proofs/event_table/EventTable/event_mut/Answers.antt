@@ -11,4 +11,4 @@ same : (t : EventTable) (i : ℕ) (w : Event) (r : 2176 ≤ vec_capacity t.items
 same t i w r = λ j. record { items = with_item t.items i w; reserved = le_prop r t.reserved j }
 
 pub returns : goal.returns
-returns c = ((refl, λ w. same c.args.self.now c.args.index w _), c.index-mut.ensures.value)
+returns c = ((refl, λ w. same c.args.self.now c.args.index w _), record { follows = tt; value = c.index_mut.ensures.value })

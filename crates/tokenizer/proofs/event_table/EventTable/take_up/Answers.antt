@@ -12,8 +12,8 @@ index-exit-requires c =
     let items = c.args.self.now.items in
     omega (arith, items.ok.0, pair_fits (vec_items items) c.args.next (omega (arith, items.ok.0, c.requires.more)) c.requires.pairs)
 
-pub index-mut-requires-else-kept-gt0 : goal.index-mut-requires-else-kept-gt0
-index-mut-requires-else-kept-gt0 c =
+pub index_mut-requires-else-kept-gt0 : goal.index_mut-requires-else-kept-gt0
+index_mut-requires-else-kept-gt0 c =
     let items = c.args.self.now.items in
     omega (arith, items.ok.0, c.requires.behind, pair_fits (vec_items items) c.args.next (omega (arith, items.ok.0, c.requires.more)) c.requires.pairs)
 
