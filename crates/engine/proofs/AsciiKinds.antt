@@ -1,9 +1,9 @@
 -- A byte below 128 is a character by itself.
 -- Assumes nothing.
-use Rattle.std.proofs.Common.{◌≡◌, ℕ, suc, ◌-◌, ◌<◌, Bool, true, cond, ◌&&◌, ◌||◌, ltb, List, ◌∷◌, length, get_or, drop, Some, None, Option, sym, refl, ap, ◌∙◌, arith, drop-cons}
+use Rattle.std.proofs.Common.{◌≡◌, ℕ, suc, ◌-◌, ◌<◌, Bool, true, ◌&&◌, ◌||◌, ltb, List, ◌∷◌, length, get_or, drop, Some, None, refl, ap, ◌∙◌, arith, drop-cons}
 use Rattle.std.proofs.lemmas.Bool.{cond-true, lt-ltb, le-leb, and_from, or_left}
 use Rattle.text.specs.Bytes.{within}
-use Rattle.characters.specs.Utf8.{character, character_at}
+use Rattle.characters.specs.Utf8.{character}
 use Rattle.punctuation.specs.Kinds.{kind_of, kind_or_end, kind_at}
 
 ascii_character : (b : ℕ) (r : List ℕ) → b < 128 → character (b ∷ r) ≡ b
