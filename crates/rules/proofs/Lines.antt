@@ -1,6 +1,6 @@
 -- The addresses of a note's lines: how a loop over the lines steps.
 -- Assumes nothing.
-use Rattle.std.proofs.Common.{◌≡◌, ℕ, zero, suc, ◌+◌, ◌-◌, ◌<◌, ◌≤◌, ltb, List, [], ◌++◌, map, length, get_or, sym, refl, ap, ◌∙◌, subst, ⊎_elim, append_assoc, append_nil, zero-add, arith, length-append}
+use Rattle.std.proofs.Common.{◌≡◌, ℕ, zero, suc, ◌+◌, ◌-◌, ◌<◌, ◌≤◌, ltb, List, [], ◌++◌, map, length, get_or, sym, refl, ap, ◌∙◌, subst, ⊎_elim, append_assoc, append-nil, zero-add, arith, length-append}
 use lib.Seq.{paste}
 use Rattle.std.proofs.lemmas.List.Edits.{paste-paste}
 use Rattle.std.proofs.lemmas.List.{length-map}
@@ -91,7 +91,7 @@ module _ (s : List ℕ) where
       omega (arith, b.counted, long, length-append b.done (line_addresses s i ++ left (line_stop s i + 1)), length-append (line_addresses s i) (left (line_stop s i + 1)), length-line i)
 
   pub behind_done : (n i : ℕ) (b : Behind n i) → length s ≤ i → b.done ≡ note_addresses s
-  behind_done n i b le = sym (append_nil b.done) ∙ ap (λ (xs : List Span). b.done ++ xs) (sym (left-none i le)) ∙ b.whole
+  behind_done n i b le = sym (append-nil b.done) ∙ ap (λ (xs : List Span). b.done ++ xs) (sym (left-none i le)) ∙ b.whole
 
   pub behind_all : (n i : ℕ) → Behind n i → length s ≤ i → n ≡ length (note_addresses s)
   behind_all n i b le = b.counted ∙ ap length (behind_done n i b le)
