@@ -1,6 +1,6 @@
 -- The segments of a note are canonical, and no others are.
 -- Assumes nothing.
-use Rattle.std.proofs.Common.{◌≡◌, ℕ, zero, suc, ◌+◌, ◌-◌, ◌<◌, ◌≤◌, Bool, true, false, ◌&&◌, ◌||◌, eqb, ltb, leb, ◌⊎◌, List, [], ◌∷◌, ◌++◌, length, get_or, sym, refl, ap, ◌∙◌, subst, ⊎_elim, arith}
+use Rattle.std.proofs.Common.{◌≡◌, ℕ, zero, suc, ◌+◌, ◌-◌, ◌<◌, ◌≤◌, Bool, true, false, ◌&&◌, ◌||◌, eqb, ltb, leb, List, [], ◌∷◌, ◌++◌, length, get_or, sym, refl, ap, ◌∙◌, subst, ⊎_elim, arith}
 use Rattle.std.specs.List.{AllByRecursion as All}
 use Rattle.std.proofs.lemmas.List.{get_or_past}
 use Rattle.std.proofs.lemmas.Bool.{cases_Bool, cases_lt, cond-true, cond-false, or_parts, or_from, or_left, or_right, and_from, and_parts, and_left, and_right, lt-ltb, le-ltb, le-leb, lt-leb, eq-eqb, ne_eqb, eqb-true, eqb-false, both_ways, true≢false}
@@ -8,7 +8,7 @@ use Rattle.text.specs.declared.spans.Span.{Span}
 use Rattle.text.specs.Bytes.{among, first}
 use Rattle.text.proofs.Firsts.{first-within, first-seek}
 use Rattle.rules.specs.InTurn.{InTextOrder}
-use Rattle.rules.specs.Segments.{SegmentKind, Data, LineEnding, Web, Segment, segment, line_ending_at, line_ending_end, begins, between, cut_from, cut, segments}
+use Rattle.rules.specs.Segments.{SegmentKind, Data, LineEnding, Web, Segment, segment, line_ending_at, line_ending_end, begins, between, cut_from, segments}
 use Rattle.rules.specs.SegmentLaws.{OneAfterAnother, holding, RightFor, Right, is_data, data_first, DataApart, web_span_of, web_spans, Canonical, SegmentsAreLawful}
 use Rattle.rules.specs.Web.{links}
 use Rattle.rules.specs.WebLaws.{WebSpan}

@@ -10,7 +10,7 @@ use Rattle.text.specs.declared.spans.Span.{Span}
 use Rattle.text.specs.declared.spans.SpanKind.{SpanKind}
 use Rattle.text.specs.declared.spans.SpanKind.TheVariants.{Www, Protocol}
 use Rattle.text.specs.Ascii.{letter, lower_case, reads}
-use Rattle.text.specs.Bytes.{among, within, some, each, same, part}
+use Rattle.text.specs.Bytes.{among, within, each, same, part}
 use Rattle.punctuation.specs.Kinds.{kind_of}
 use Rattle.characters.specs.WhiteSpace.{white_space}
 use Rattle.text.proofs.Firsts.{first-within}

@@ -1,4 +1,4 @@
-use Rattle.std.proofs.Common.{◌≡◌, ℕ, ◌-◌, ◌<◌, ◌≤◌, true, get_or}
+use Rattle.std.proofs.Common.{◌≡◌, ℕ, ◌<◌, ◌≤◌, true, get_or}
 use Rattle.rules.specs.Mail.{atext}
 use Rattle.rules.proofs.mail.peek_bytes_atext.Given as goal
 

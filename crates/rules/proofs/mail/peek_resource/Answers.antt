@@ -1,5 +1,4 @@
 use Rattle.std.proofs.Common.{not, sym, ap, ◌∙◌, arith}
-use Rattle.rules.specs.Mail.{in_resource}
 use Rattle.text.proofs.Firsts.{first_more, first_here, first-end}
 use Rattle.rules.proofs.mail.peek_resource.Goals as goal
 use Rattle.rules.proofs.mail.peek_resource.Goals.{then-index-bytes-via-then-index-bytes, then-index-bytes-via-else-index-bytes+then-not-in_resource}

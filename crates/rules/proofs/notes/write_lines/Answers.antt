@@ -1,4 +1,4 @@
-use Rattle.std.proofs.Common.{◌-◌, arith}
+use Rattle.std.proofs.Common.{arith}
 use Rattle.text.proofs.Runs.{part_length}
 use Rattle.rules.proofs.Lines.{room, write_more, written_all}
 use Rattle.rules.proofs.notes.write_lines.Goals as goal
