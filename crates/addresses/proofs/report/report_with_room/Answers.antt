@@ -10,7 +10,7 @@ pub list_addresses-requires : goal.list_addresses-requires
 list_addresses-requires c =
     let s = c.args.note.now in
     let a = accepted s c.args.spans.now c.find_note_addresses.new.out c.in-Ok.count c.in-Ok.ensures.answer c.find_note_addresses.ensures.written in
-    subst (All (Within s)) (sym a.1) (each_within s _ c.find_note_addresses.ensures.each-is-an-address)
+    subst (All (Within s)) (sym a.1) (each_within s _ c.find_note_addresses.ensures.each_is_an_address)
 
 pub returns-in-Ok : goal.returns-in-Ok
 returns-in-Ok c =
