@@ -1,6 +1,6 @@
 -- One turn of a run, and its end: how a loop over state calls adds up to the run that is defined.
 -- Assumes nothing.
-use Rattle.std.proofs.Common.{◌≡◌, ℕ, zero, suc, ◌+◌, Bool, true, Some, None, Option, sym, refl, ap, ◌∙◌, subst, add-zero, add_assoc}
+use Rattle.std.proofs.Common.{◌≡◌, ℕ, zero, suc, ◌+◌, Bool, true, Some, None, Option, sym, ap, ◌∙◌, subst, add-zero, add_assoc}
 use Rattle.machine.specs.declared.cursors.Until.{Until}
 use Rattle.machine.specs.declared.states.StateName.{StateName}
 use Rattle.machine.specs.Moves.{Machine}

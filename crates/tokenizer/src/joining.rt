@@ -1,10 +1,10 @@
 // Neighbouring Data spans become one, in place, once the end of a note has been read.
 ghost use Rattle.std.specs.Borrow.{sem, follows};
 ghost use Rattle.std.specs.Prelude.{◌≡◌, ◌+◌, ◌<◌, ◌≤◌, true, drop, vec_len, slice_index_or};
-ghost use Rattle.machine.specs.contracts.events.Event.{the_row as event-row};
+ghost use Rattle.machine.specs.contracts.events.Event.{the_row as event_row};
 ghost use Rattle.machine.specs.Joins.{joined};
 ghost use Rattle.machine.specs.Moves.{with_tables};
-ghost use Rattle.tokenizer.specs.contracts.event_table.EventTable.{the_row as table-row};
+ghost use Rattle.tokenizer.specs.contracts.event_table.EventTable.{the_row as table_row};
 ghost use Rattle.tokenizer.specs.Joining.{paired, joined_from, with_event};
 ghost use Rattle.tokenizer.specs.View.{machine};
 
@@ -17,7 +17,7 @@ impl EventTable {
     // One event, lent.
     pub fn event_mut(&mut self, index: usize) -> &mut Event
         requires { index < vec_len self.old.items }
-        ensures* follows { sem 𝓛 (follows table-row event-row self.entry.ghost_name result.ghost_name (λ w. with_event self.old index w)) }
+        ensures* follows { sem 𝓛 (follows table_row event_row self.entry.ghost_name result.ghost_name (λ w. with_event self.old index w)) }
         ensures value { result.now ≡ slice_index_or self.old.items.items index result.now }
     {
         &mut self.items[index]

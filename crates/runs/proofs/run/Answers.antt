@@ -1,8 +1,6 @@
-use Rattle.std.proofs.Common.{◌≡◌, ℕ, suc, ◌+◌, ◌-◌, ◌≤◌, List, length, vec_items, sym, ap, ◌∙◌, subst, arith}
-use Rattle.machine.specs.Moves.{Machine, settled}
-use Rattle.machine.specs.Runs.{prepared, due, shown}
-use Rattle.machine.proofs.Held.{held-index, held_next}
-use Rattle.tokenizer.specs.Bounds.{Callable}
+use Rattle.std.proofs.Common.{◌+◌, ◌-◌, vec_items, sym, ◌∙◌, arith}
+use Rattle.machine.specs.Moves.{settled}
+use Rattle.machine.proofs.Held.{held-index}
 use Rattle.tokenizer.specs.View.{machine}
 use Rattle.runs.proofs.Bounded.{turn_callable, turn_sound}
 use Rattle.runs.proofs.Turns.{stops, turns}
