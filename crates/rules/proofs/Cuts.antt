@@ -1,7 +1,7 @@
 -- The segments of a note are canonical, and no others are.
 -- Assumes nothing.
 use Rattle.std.proofs.Common.{◌≡◌, ℕ, zero, suc, ◌+◌, ◌-◌, ◌<◌, ◌≤◌, Bool, true, false, ◌&&◌, ◌||◌, eqb, ltb, leb, List, [], ◌∷◌, ◌++◌, length, get_or, sym, refl, ap, ◌∙◌, subst, ⊎_elim, arith}
-use Rattle.std.specs.List.{AllByRecursion as All}
+use Rattle.std.specs.List.{AllByRecursion}
 use Rattle.std.proofs.lemmas.List.{get_or_past}
 use Rattle.std.proofs.lemmas.Bool.{cases_Bool, cases_lt, cond-true, cond-false, or_parts, or_from, or_left, or_right, and_from, and_parts, and_left, and_right, lt-ltb, le-ltb, le-leb, lt-leb, eq-eqb, ne_eqb, eqb-true, eqb-false, both_ways, true≢false}
 use Rattle.text.specs.declared.spans.Span.{Span}
@@ -104,7 +104,7 @@ module _ (s : List ℕ) where
   later i k [] t h = tt
   later i k (x ∷ xs) t h = ((h x xs refl, t.0.1), t.1)
 
-  between_step : (xs : List Span) (i : ℕ) → i < length s → InTextOrder i xs → All Clear xs → begins xs i ≡ false → Step xs i (between s xs i)
+  between_step : (xs : List Span) (i : ℕ) → i < length s → InTextOrder i xs → AllByRecursion Clear xs → begins xs i ≡ false → Step xs i (between s xs i)
   between_step xs i lt t c h =
       ⊎_elim
       (λ l. subst (Step xs i) (sym (cond-true (line_ending_at s i) _ _ l)) (line l))
@@ -115,7 +115,7 @@ module _ (s : List ℕ) where
       next-beyond : (x : Span) (r : List Span) → xs ≡ x ∷ r → (i < x.from) × ((x.from < x.to) × Clear x)
       next-beyond x r e =
           let t' = subst (InTextOrder i) e t in
-          let c' = subst (All Clear) e c in
+          let c' = subst (AllByRecursion Clear) e c in
           let ne = eqb-false x.from i (subst (λ l. begins l i ≡ false) e h) in
           (omega (arith, t'.0.0, ne), (t'.0.1, c'.0))
 
@@ -169,15 +169,15 @@ module _ (s : List ℕ) where
   record Good (i : ℕ) (xs : List Span) (ys : List Segment) : Type 0 where
     cover : OneAfterAnother i (length s) ys
     web : web_spans ys ≡ xs
-    right : All (Right s) ys
+    right : AllByRecursion (Right s) ys
     apart : DataApart ys
 
   -- at the end of the note no span is left
-  none_left : (i : ℕ) (xs : List Span) → length s ≤ i → InTextOrder i xs → All Clear xs → [] ≡ xs
+  none_left : (i : ℕ) (xs : List Span) → length s ≤ i → InTextOrder i xs → AllByRecursion Clear xs → [] ≡ xs
   none_left i [] le t c = refl
   none_left i (x ∷ xs) le t c = absurd (omega (arith, t.0.0, t.0.1, c.0.0))
 
-  good_end : (n i : ℕ) (xs : List Span) → i ≤ length s → length s ≤ i → InTextOrder i xs → All Clear xs → Good i xs (cut_from s n xs i)
+  good_end : (n i : ℕ) (xs : List Span) → i ≤ length s → length s ≤ i → InTextOrder i xs → AllByRecursion Clear xs → Good i xs (cut_from s n xs i)
   good_end n i xs le ge t c = subst (Good i xs) (sym (cut-end s n xs i ge)) (record { cover = omega arith; web = none_left i xs ge t c; right = tt; apart = tt })
 
   good_between : (n i : ℕ) (xs : List Span) (y : Segment) → Step xs i y → Good y.to xs (cut_from s n xs y.to) → Good i xs (y ∷ cut_from s n xs y.to)
@@ -211,9 +211,9 @@ module _ (s : List ℕ) where
 
   -- so many segments are enough from every place on
   abbrev GoodCut : ℕ → Type 0
-  GoodCut n = (xs : List Span) (i : ℕ) → i ≤ length s → length s ≤ i + n → InTextOrder i xs → All Clear xs → Good i xs (cut_from s n xs i)
+  GoodCut n = (xs : List Span) (i : ℕ) → i ≤ length s → length s ≤ i + n → InTextOrder i xs → AllByRecursion Clear xs → Good i xs (cut_from s n xs i)
 
-  good_more : (n : ℕ) → GoodCut n → (xs : List Span) (i : ℕ) → length s ≤ i + suc n → InTextOrder i xs → All Clear xs → i < length s → (b : Bool) → begins xs i ≡ b → Good i xs (cut_from s (suc n) xs i)
+  good_more : (n : ℕ) → GoodCut n → (xs : List Span) (i : ℕ) → length s ≤ i + suc n → InTextOrder i xs → AllByRecursion Clear xs → i < length s → (b : Bool) → begins xs i ≡ b → Good i xs (cut_from s (suc n) xs i)
   good_more n rec [] i fuel t c lt true e = absurd (true≢false (sym e))
   good_more n rec (x ∷ xs) i fuel t c lt true e =
       let at = eqb-true x.from i e in
@@ -263,7 +263,7 @@ module _ (s : List ℕ) where
   Cut i xs = (n : ℕ) → length s ≤ i + n → cut_from s n (web_spans xs) i ≡ xs
 
   -- data ends at the end of the note, at a line ending or at a web span
-  data_end : (a b : ℕ) (r : List Segment) → a < b → OneAfterAnother b (length s) r → All (Right s) r → data_first r ≡ false → ((j : ℕ) → a ≤ j → j < b → line_ending_at s j ≡ false) → first (λ j. line_ending_at s j || begins (web_spans r) j) s (a + 1) ≡ b
+  data_end : (a b : ℕ) (r : List Segment) → a < b → OneAfterAnother b (length s) r → AllByRecursion (Right s) r → data_first r ≡ false → ((j : ℕ) → a ≤ j → j < b → line_ending_at s j ≡ false) → first (λ j. line_ending_at s j || begins (web_spans r) j) s (a + 1) ≡ b
   data_end a b r lt t u h f =
       let p : ℕ → Bool = λ j. line_ending_at s j || begins (web_spans r) j in
       first-seek p (length s - (a + 1)) (a + 1) b (record {
@@ -278,11 +278,11 @@ module _ (s : List ℕ) where
       here LineEnding c d q e g h = or_left (line_ending_at s b) _ (ap (line_ending_at s) (sym e) ∙ g.0)
       here (Web k) c d q e g h = or_right (line_ending_at s b) _ (eq-eqb c b e)
 
-      at : (r : List Segment) → OneAfterAnother b (length s) r → All (Right s) r → data_first r ≡ false → b < length s → (line_ending_at s b || begins (web_spans r) b) ≡ true
+      at : (r : List Segment) → OneAfterAnother b (length s) r → AllByRecursion (Right s) r → data_first r ≡ false → b < length s → (line_ending_at s b || begins (web_spans r) b) ≡ true
       at [] t u h less = absurd (omega arith)
       at (y ∷ q) t u h less = here y.kind y.from y.to q t.0 u.0 h
 
-  cut-one : (i : ℕ) (k : SegmentKind) (a b : ℕ) (r : List Segment) → OneAfterAnother i (length s) (segment k a b ∷ r) → All (Right s) (segment k a b ∷ r) → DataApart (segment k a b ∷ r) → Cut b r → Cut i (segment k a b ∷ r)
+  cut-one : (i : ℕ) (k : SegmentKind) (a b : ℕ) (r : List Segment) → OneAfterAnother i (length s) (segment k a b ∷ r) → AllByRecursion (Right s) (segment k a b ∷ r) → DataApart (segment k a b ∷ r) → Cut b r → Cut i (segment k a b ∷ r)
   cut-one i k a b r (p, (q, t)) u h ih zero fuel = absurd (let le = cover_le b (length s) r t in omega arith)
   cut-one i (Web k) a b r (p, (q, t)) u h ih (suc m) fuel =
       let le = cover_le b (length s) r t in
@@ -305,7 +305,7 @@ module _ (s : List ℕ) where
       cut-between s m (web_spans r) i (omega arith) (begins-none b i (web_spans r) (spans-beyond b (length s) r t) q)
       ∙ ap (λ (y : Segment). y ∷ cut_from s m (web_spans r) y.to) o ∙ ap (λ z. segment Data a b ∷ z) (ih m (omega arith))
 
-  cut-is : (i : ℕ) (xs : List Segment) → OneAfterAnother i (length s) xs → All (Right s) xs → DataApart xs → Cut i xs
+  cut-is : (i : ℕ) (xs : List Segment) → OneAfterAnother i (length s) xs → AllByRecursion (Right s) xs → DataApart xs → Cut i xs
   cut-is i [] t u h n fuel = cut-end s n [] i (omega arith)
   cut-is i (x ∷ xs) t u h n fuel = cut-one i x.kind x.from x.to xs t u h (cut-is x.to xs t.1.1 u.1 h.1) n fuel
 
@@ -316,7 +316,7 @@ canonical-is member s xs c =
 -- ---- the segments of a note
 
 -- a web span begins with no byte of a line ending
-clear-spans : (member : ℕ → Bool) (s : List ℕ) (c : ℕ) (xs : List Span) → InTextOrder c xs → All (WebSpan member s) xs → All (Clear s) xs
+clear-spans : (member : ℕ → Bool) (s : List ℕ) (c : ℕ) (xs : List Span) → InTextOrder c xs → AllByRecursion (WebSpan member s) xs → AllByRecursion (Clear s) xs
 clear-spans member s c [] t h = tt
 clear-spans member s c (x ∷ xs) t h = ((h.0.within, h.0.no_line_ending x.from (omega arith) t.0.1), clear-spans member s x.to xs t.1 h.1)
 

@@ -1,7 +1,7 @@
 -- What the byte at a place tells of the kind of character there.
 -- Assumes nothing.
 use Rattle.std.proofs.Common.{◌≡◌, ℕ, ◌+◌, ◌-◌, ◌<◌, ◌≤◌, Bool, true, false, cond, eqb, ltb, leb, List, [], ◌∷◌, length, get_or, drop, Some, sym, refl, ap, ◌∙◌, subst, ⊎_elim, arith}
-use Rattle.std.specs.List.{AllByRecursion as All}
+use Rattle.std.specs.List.{AllByRecursion}
 use Rattle.std.proofs.lemmas.List.{drop_more}
 use Rattle.std.proofs.lemmas.Bool.{cond-true, cond-false, lt-ltb, le-ltb, le-leb, lt-leb, leb-true, and_from, and_left, and_right, and_parts, or_from, or_left, or_cases, eqb-true, true≢false}
 use Rattle.punctuation.specs.declared.kinds.CharacterKind.{CharacterKind}
@@ -42,7 +42,7 @@ not_high : (row : Row) (b : ℕ) (bs : List ℕ) → BeginsHigh row → b < 192 
 not_high [] b bs h lt = absurd h
 not_high (r ∷ row) b bs h lt = and_left (within r.0 r.1 b) (begin_with row bs) (and_left (leb r.0 b) (leb b r.1) (lt-leb r.0 b (omega (arith, leb-true 192 r.0 h))))
 
-none_high : (rows : List Row) (b : ℕ) (bs : List ℕ) → All BeginsHigh rows → b < 192 → shaped rows (b ∷ bs) ≡ false
+none_high : (rows : List Row) (b : ℕ) (bs : List ℕ) → AllByRecursion BeginsHigh rows → b < 192 → shaped rows (b ∷ bs) ≡ false
 none_high [] b bs h lt = refl
 none_high (row ∷ rows) b bs h lt = or_from (begin_with row (b ∷ bs)) (shaped rows (b ∷ bs)) (not_high row b bs h.0 lt) (none_high rows b bs h.1 lt)
 

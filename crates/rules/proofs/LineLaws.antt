@@ -1,7 +1,7 @@
 -- The laws of the addresses of a note, from those of its lines.
 -- Assumes nothing.
 use Rattle.std.proofs.Common.{◌≡◌, ℕ, zero, suc, ◌+◌, ◌-◌, ◌<◌, ◌≤◌, true, List, [], ◌∷◌, ◌++◌, map, length, get_or, sym, refl, ap, ◌∙◌, subst, inl, inr, ⊎_elim, arith}
-use Rattle.std.specs.List.{AllByRecursion as All}
+use Rattle.std.specs.List.{AllByRecursion}
 use Rattle.std.proofs.ByRecursion.{All-append}
 use Rattle.std.proofs.lemmas.List.{get_or_past}
 use Rattle.std.proofs.lemmas.Bool.{cases_lt, true≢false}
@@ -65,12 +65,12 @@ module _ (s : List ℕ) (i e : ℕ) (le : e ≤ length s) where
         within = omega (arith, a.within, long, inside);
       }
 
-  pub all_moved : (xs : List Span) → All (Address (part i e s)) xs → All (Address s) (map (moved i) xs)
+  pub all_moved : (xs : List Span) → AllByRecursion (Address (part i e s)) xs → AllByRecursion (Address s) (map (moved i) xs)
   all_moved [] h = tt
   all_moved (x ∷ xs) h = (address_moved x h.0, all_moved xs h.1)
 
   -- each ends within the part
-  pub all-inside : (xs : List Span) → All (Address (part i e s)) xs → i ≤ e → All (λ x. x.to ≤ e) (map (moved i) xs)
+  pub all-inside : (xs : List Span) → AllByRecursion (Address (part i e s)) xs → i ≤ e → AllByRecursion (λ x. x.to ≤ e) (map (moved i) xs)
   all-inside [] h low = tt
   all-inside (x ∷ xs) h low = (omega (arith, h.0.within, long), all-inside xs h.1 low)
 
@@ -84,7 +84,7 @@ pub order_lower : (c d : ℕ) (xs : List Span) → c ≤ d → InTextOrder d xs 
 order_lower c d [] le h = tt
 order_lower c d (x ∷ xs) le h = ((omega (arith, h.0.0), h.0.1), h.1)
 
-pub order_append : (c d : ℕ) (xs ys : List Span) → c ≤ d → InTextOrder c xs → All (λ x. x.to ≤ d) xs → InTextOrder d ys → InTextOrder c (xs ++ ys)
+pub order_append : (c d : ℕ) (xs ys : List Span) → c ≤ d → InTextOrder c xs → AllByRecursion (λ x. x.to ≤ d) xs → InTextOrder d ys → InTextOrder c (xs ++ ys)
 order_append c d [] ys le h most k = order_lower c d ys le k
 order_append c d (x ∷ xs) ys le h most k = (h.0, order_append x.to d xs ys most.0 h.1 most.1 k)
 
@@ -114,18 +114,18 @@ module _ (s : List ℕ) where
   note-in_order = lines-in_order (length s) 0 (omega arith)
 
   lines_are : (n i : ℕ) → length s ≤ i + n → EachIsAnAddress s (left s i)
-  lines_are zero i h = subst (All (Address s)) (sym (left-none s i (omega arith))) tt
+  lines_are zero i h = subst (AllByRecursion (Address s)) (sym (left-none s i (omega arith))) tt
   lines_are (suc n) i h =
       ⊎_elim
       (λ lt.
       let low = stop_low s i (omega arith) in
       let high = stop_high s i (omega arith) in
       let t = part i (line_stop s i) s in
-      subst (All (Address s)) (sym (left-more s i lt))
+      subst (AllByRecursion (Address s)) (sym (left-more s i lt))
       (All-append (Address s) (line_addresses s i) (left s (line_stop s i + 1))
       (all_moved s i (line_stop s i) high (addresses t) (addresses_are t))
       (lines_are n (line_stop s i + 1) (omega (arith, low)))))
-      (λ le. subst (All (Address s)) (sym (left-none s i le)) tt)
+      (λ le. subst (AllByRecursion (Address s)) (sym (left-none s i le)) tt)
       (cases_lt i (length s))
 
   pub note_are : EachIsAnAddress s (note_addresses s)

@@ -1,7 +1,7 @@
 -- The laws of all web spans and mail addresses of a note, from those of its segments.
 -- Assumes nothing.
 use Rattle.std.proofs.Common.{◌≡◌, ℕ, ◌+◌, ◌<◌, ◌≤◌, Bool, ◌⊎◌, List, [], ◌∷◌, ◌++◌, map, length, sym, subst, inl, inr, arith}
-use Rattle.std.specs.List.{AllByRecursion as All}
+use Rattle.std.specs.List.{AllByRecursion}
 use Rattle.text.specs.declared.spans.Span.{Span}
 use Rattle.text.specs.Bytes.{part}
 use Rattle.rules.specs.InTurn.{InTextOrder}
@@ -17,7 +17,7 @@ use Rattle.std.proofs.ByRecursion.{All-append}
 use Rattle.rules.proofs.LineLaws.{all_moved, all-inside, order_moved, order_lower, order_append}
 use Rattle.rules.proofs.WebParts.{lawful}
 
-all_map : (P Q : Span → Type 0) (xs : List Span) → ((x : Span) → P x → Q x) → All P xs → All Q xs
+all_map : (P Q : Span → Type 0) (xs : List Span) → ((x : Span) → P x → Q x) → AllByRecursion P xs → AllByRecursion Q xs
 all_map P Q [] f h = tt
 all_map P Q (x ∷ xs) f h = (f x h.0, all_map P Q xs f h.1)
 
@@ -44,7 +44,7 @@ module _ (member : ℕ → Bool) (s : List ℕ) where
   abbrev Known : Span → Type 0
   Known x = WebSpan member s x ⊎ Address s x
 
-  one_known : (k : SegmentKind) (a b : ℕ) (ys zs : List Span) → b ≤ length s → All (WebSpan member s) (web_span_of k a b ++ zs) → (All (WebSpan member s) zs → All Known ys) → All Known (spans_of s k a b ++ ys)
+  one_known : (k : SegmentKind) (a b : ℕ) (ys zs : List Span) → b ≤ length s → AllByRecursion (WebSpan member s) (web_span_of k a b ++ zs) → (AllByRecursion (WebSpan member s) zs → AllByRecursion Known ys) → AllByRecursion Known (spans_of s k a b ++ ys)
   one_known Data a b ys zs le w rest =
       All-append Known (map (moved a) (addresses (part a b s))) ys
       (all_map (Address s) Known _ (λ x h. inr h) (all_moved s a b le (addresses (part a b s)) (addresses_are (part a b s))))
@@ -52,7 +52,7 @@ module _ (member : ℕ → Bool) (s : List ℕ) where
   one_known LineEnding a b ys zs le w rest = rest w
   one_known (Web kind) a b ys zs le w rest = (inl w.0, rest w.1)
 
-  known : (a : ℕ) (xs : List Segment) → OneAfterAnother a (length s) xs → All (WebSpan member s) (web_spans xs) → All Known (spans_in s xs)
+  known : (a : ℕ) (xs : List Segment) → OneAfterAnother a (length s) xs → AllByRecursion (WebSpan member s) (web_spans xs) → AllByRecursion Known (spans_in s xs)
   known a [] t w = tt
   known a (x ∷ xs) t w =
       one_known x.kind x.from x.to (spans_in s xs) (web_spans xs) (cover_le x.to (length s) xs t.1.1) w
@@ -63,5 +63,5 @@ lawful-spans member s =
     let c = canonical-segments member s in
     record {
       in_text_order = in_order s 0 (segments member s) c.cover;
-      known = known member s 0 (segments member s) c.cover (subst (All (WebSpan member s)) (sym c.web) (lawful member s).are_web_spans);
+      known = known member s 0 (segments member s) c.cover (subst (AllByRecursion (WebSpan member s)) (sym c.web) (lawful member s).are_web_spans);
     }

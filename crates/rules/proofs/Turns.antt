@@ -1,7 +1,7 @@
 -- The spans of a rule, one after another: the next one, those that are left, and the laws of all of them.
 -- Assumes nothing.
 use Rattle.std.proofs.Common.{◌≡◌, ℕ, zero, suc, ◌+◌, ◌-◌, ◌<◌, ◌≤◌, true, false, List, [], ◌∷◌, length, get_or, drop, is_some, Some, None, Option, sym, refl, ap, ◌∙◌, subst, ⊎_elim, add-one, arith, length-drop, drop-cons}
-use Rattle.std.specs.List.{AllByRecursion as All}
+use Rattle.std.specs.List.{AllByRecursion}
 use Rattle.std.proofs.lemmas.Bool.{cases_lt, true≢false}
 use Rattle.text.specs.declared.spans.Span.{Span}
 use Rattle.text.specs.Bytes.{first}
@@ -142,9 +142,9 @@ module _ (rule : Rule) (s : List ℕ) (f : Forward rule s) where
       over-left InTextOrder (λ c e. tt)
       (λ c x xs e r. ((f.low c (at c) x (at_low c) e, f.some c (at c) x (at_low c) e), r))
 
-  pub left-all : (Q : Span → Type 0) → ((c i : ℕ) (x : Span) → c ≤ i → rule c i ≡ Some x → Q x) → (c : ℕ) → All Q (left c)
+  pub left-all : (Q : Span → Type 0) → ((c i : ℕ) (x : Span) → c ≤ i → rule c i ≡ Some x → Q x) → (c : ℕ) → AllByRecursion Q (left c)
   left-all Q h =
-      over-left (λ _ xs. All Q xs) (λ c e. tt)
+      over-left (λ _ xs. AllByRecursion Q xs) (λ c e. tt)
       (λ c x xs e r. (h c (at c) x (at_low c) e, r))
 
   -- ---- how a loop over all of them steps

@@ -1,7 +1,7 @@
 -- Some notes, and the web spans and mail addresses in them; some cuts into segments, and some trails.
 -- Assumes nothing.
 use Rattle.std.specs.Prelude.{◌≡◌, ℕ, Bool, true, false, List, [], ◌∷◌, ◌++◌, codes}
-use Rattle.std.specs.List.{AllByRecursion as All}
+use Rattle.std.specs.List.{AllByRecursion}
 use Rattle.text.specs.declared.spans.Span.{Span}
 use Rattle.text.specs.declared.spans.SpanKind.{SpanKind}
 use Rattle.text.specs.declared.spans.SpanKind.TheVariants.{Www, Protocol, Email, Mailto, Xmpp}
@@ -17,7 +17,7 @@ pub record Example : Type 0 where
   pub spans : List Span
 
 abbrev pub ComesOut : Example → Type 0
-ComesOut x = All (λ set. note_spans set x.note ≡ x.spans) x.sets
+ComesOut x = AllByRecursion (λ set. note_spans set x.note ≡ x.spans) x.sets
 
 abbrev pub with_house_set : List ℕ → List Span → Example
 with_house_set note spans = record { sets = house ∷ []; note = note; spans = spans }
@@ -224,7 +224,7 @@ tables =
     []
 
 abbrev pub EveryExampleComesOut : Type 0
-EveryExampleComesOut = All (All ComesOut) tables
+EveryExampleComesOut = AllByRecursion (AllByRecursion ComesOut) tables
 
 -- ---- segments
 
@@ -247,7 +247,7 @@ cut_examples =
     []
 
 abbrev pub EveryCutComesOut : Type 0
-EveryCutComesOut = All (λ (x : CutExample). segments house x.note ≡ x.cut) cut_examples
+EveryCutComesOut = AllByRecursion (λ (x : CutExample). segments house x.note ≡ x.cut) cut_examples
 
 -- ---- trails
 
@@ -271,4 +271,4 @@ trail_examples =
     []
 
 abbrev pub EveryTrailComesOut : Type 0
-EveryTrailComesOut = All (λ (x : List ℕ × Bool). trail house true x.0 0 ≡ x.1) trail_examples
+EveryTrailComesOut = AllByRecursion (λ (x : List ℕ × Bool). trail house true x.0 0 ≡ x.1) trail_examples

@@ -1,7 +1,7 @@
 -- What holds of mail addresses, in words that do not retell the search.
 -- Assumes nothing.
 use Rattle.std.specs.Prelude.{◌≡◌, ℕ, ◌+◌, ◌-◌, ◌<◌, ◌≤◌, true, ◌⊎◌, List, length, slice_index, slice_index_or}
-use Rattle.std.specs.List.{AllByRecursion as All}
+use Rattle.std.specs.List.{AllByRecursion}
 use Rattle.text.specs.declared.spans.Span.{Span}
 use Rattle.text.specs.Ascii.{letter}
 use Rattle.rules.specs.Mail.{is_xmpp}
@@ -26,4 +26,4 @@ pub record Address (s : List ℕ) (x : Span) : Type 0 where
   pub within : x.to ≤ length s
 
 abbrev pub EachIsAnAddress : List ℕ → List Span → Type 0
-EachIsAnAddress s xs = All (Address s) xs
+EachIsAnAddress s xs = AllByRecursion (Address s) xs

@@ -1,7 +1,7 @@
 -- What holds of the segments of a note, and of no other cut.
 -- Assumes nothing.
 use Rattle.std.specs.Prelude.{◌≡◌, ℕ, suc, ◌<◌, ◌≤◌, Bool, true, false, cond, ◌&&◌, ◌⊎◌, List, [], ◌∷◌, ◌++◌, length, nat_le, nat_lt}
-use Rattle.std.specs.List.{AllByRecursion as All}
+use Rattle.std.specs.List.{AllByRecursion}
 use Rattle.text.specs.declared.spans.Span.{Span}
 use Rattle.rules.specs.InTurn.{InTextOrder}
 use Rattle.rules.specs.MailLaws.{Address}
@@ -56,7 +56,7 @@ web_spans (x ∷ xs) = web_span_of x.kind x.from x.to ++ web_spans xs
 pub record Canonical (member : ℕ → Bool) (s : List ℕ) (xs : List Segment) : Type 0 where
   pub cover : OneAfterAnother 0 (length s) xs
   pub web : web_spans xs ≡ links member s
-  pub right : All (Right s) xs
+  pub right : AllByRecursion (Right s) xs
   pub apart : DataApart xs
 
 -- of every note, with every punctuation set: its segments are canonical, each byte lies in exactly one of them,
@@ -74,7 +74,7 @@ SegmentsAreLawful = (member : ℕ → Bool) (s : List ℕ) → LawfulSegments me
 -- and each is a web span or a mail address
 pub record LawfulSpans (member : ℕ → Bool) (s : List ℕ) : Type 0 where
   pub in_text_order : InTextOrder 0 (note_spans member s)
-  pub known : All (λ x. WebSpan member s x ⊎ Address s x) (note_spans member s)
+  pub known : AllByRecursion (λ x. WebSpan member s x ⊎ Address s x) (note_spans member s)
 
 abbrev pub SpansAreLawful : Type 0
 SpansAreLawful = (member : ℕ → Bool) (s : List ℕ) → LawfulSpans member s

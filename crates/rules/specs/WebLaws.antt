@@ -1,7 +1,7 @@
 -- What holds of web spans, in words that do not retell the rules.
 -- Assumes nothing.
 use Rattle.std.specs.Prelude.{◌≡◌, ℕ, ◌+◌, ◌-◌, ◌<◌, ◌≤◌, Bool, true, false, not, ◌⊎◌, List, [], ◌∷◌, length, Some, codes, ◌≢◌, slice_index}
-use Rattle.std.specs.List.{AllByRecursion as All}
+use Rattle.std.specs.List.{AllByRecursion}
 use Rattle.text.specs.declared.spans.Span.{Span}
 use Rattle.text.specs.declared.spans.SpanKind.{SpanKind}
 use Rattle.text.specs.declared.spans.SpanKind.TheVariants.{Www, Protocol, Email, Mailto, Xmpp}
@@ -45,7 +45,7 @@ pub record WebSpan (member : ℕ → Bool) (s : List ℕ) (x : Span) : Type 0 wh
 pub record LawfulLinks (member : ℕ → Bool) (s : List ℕ) : Type 0 where
   pub in_text_order : InTextOrder 0 (links member s)
   pub in_turn : FoundInTurn (λ _. link_at member s) 0 (links member s)
-  pub are_web_spans : All (WebSpan member s) (links member s)
+  pub are_web_spans : AllByRecursion (WebSpan member s) (links member s)
 
 abbrev pub WebSpansAreLawful : Type 0
 WebSpansAreLawful = (member : ℕ → Bool) (s : List ℕ) → LawfulLinks member s
