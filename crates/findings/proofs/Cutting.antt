@@ -1,7 +1,7 @@
 -- The pieces of a note cover it, one after another, and have the web spans that the rules name.
 -- Assumes nothing.
 use Rattle.std.proofs.Common.{◌≡◌, ℕ, zero, suc, ◌+◌, ◌-◌, ◌<◌, ◌≤◌, Bool, true, false, eqb, ltb, ◌⊎◌, List, [], ◌∷◌, ◌++◌, length, get_or, Some, None, codes, Option, sym, refl, ap, ◌∙◌, subst, inl, inr, ⊎_elim, arith}
-use Rattle.std.specs.List.{AllByRecursion as All}
+use Rattle.std.specs.List.{AllByRecursion}
 use Rattle.std.proofs.lemmas.Bool.{cases_Bool, cases_lt, cond-true, cond-false, and_parts, eqb-true, lt-ltb, le-ltb, both_ways, true≢false}
 use Rattle.text.specs.declared.spans.Span.{Span}
 use Rattle.text.specs.declared.spans.SpanKind.{SpanKind}
@@ -179,7 +179,7 @@ module _ (member : ℕ → Bool) (s : List ℕ) where
 
   pub record Covered (i : ℕ) (xs : List Segment) : Type 0 where
     pub cover : OneAfterAnother i (length s) xs
-    pub right : All (Right s) xs
+    pub right : AllByRecursion (Right s) xs
     pub web : web_spans xs ≡ left-from i
 
   covered_end : (n i : ℕ) → i ≤ length s → length s ≤ i → Covered i (pieces_from member s n i)

@@ -1,7 +1,7 @@
 -- The pieces of a note, with neighbouring data joined, are its segments.
 -- Assumes nothing.
 use Rattle.std.proofs.Common.{◌≡◌, ℕ, ◌<◌, Bool, false, cond, ◌&&◌, List, [], ◌∷◌, ◌++◌, map, length, refl, ap, ◌∙◌, ⊎_elim, arith}
-use Rattle.std.specs.List.{AllByRecursion as All}
+use Rattle.std.specs.List.{AllByRecursion}
 use Rattle.std.proofs.lemmas.Bool.{cases_lt, and_right}
 use Rattle.text.specs.declared.spans.Span.{Span}
 use Rattle.rules.specs.Segments.{SegmentKind, Data, LineEnding, Web, Segment, segment, segments}
@@ -44,7 +44,7 @@ named_merged (x ∷ xs) = ap (joinings.put (name_for x.kind) x.from x.to) (named
 module _ (s : List ℕ) where
   record CanonicalFrom (i : ℕ) (spans : List Span) (xs : List Segment) : Type 0 where
     cover : OneAfterAnother i (length s) xs
-    right : All (Right s) xs
+    right : AllByRecursion (Right s) xs
     apart : DataApart xs
     web : web_spans xs ≡ spans
 
@@ -66,7 +66,7 @@ module _ (s : List ℕ) where
       by_kinds LineEnding m c d r g = record { cover = (e, (lt, g.cover)); right = (r, g.right); apart = (refl, g.apart); web = g.web }
       by_kinds (Web kind) m c d r g = record { cover = (e, (lt, g.cover)); right = (r, g.right); apart = (refl, g.apart); web = ap (λ l. web_span_of (Web kind) a b ++ l) g.web }
 
-  merged_canonical : (i : ℕ) (xs : List Segment) → OneAfterAnother i (length s) xs → All (Right s) xs → CanonicalFrom i (web_spans xs) (merged xs)
+  merged_canonical : (i : ℕ) (xs : List Segment) → OneAfterAnother i (length s) xs → AllByRecursion (Right s) xs → CanonicalFrom i (web_spans xs) (merged xs)
   merged_canonical i [] t u = record { cover = t; right = tt; apart = tt; web = refl }
   merged_canonical i (x ∷ xs) t u = put-canonical i x.kind x.from x.to (web_spans xs) (merged xs) t.0 t.1.0 u.0 (merged_canonical x.to xs t.1.1 u.1)
 

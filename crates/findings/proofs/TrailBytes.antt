@@ -66,7 +66,7 @@ module _ (mem : ℕ → Bool) (c : Bool) (s : List ℕ) (t : ℕ) where
   none_item b bs h1 h2 h3 =
       cond-false (mark b || (c && eqb b 41)) 1 (reference_length (b ∷ bs))
       (or_from (mark b) (c && eqb b 41)
-      (among_none (λ x. trail_mark x || eqb x 93) (codes "!\"'*,.:;?_~]") (refl, (refl, (refl, (refl, (refl, (refl, (refl, (refl, (refl, (refl, (refl, (refl, tt)))))))))))) b (or_from (trail-mark b) (eqb b 93) h2 h1))
+      (among_none (λ x. trail_mark x || eqb x 93) (codes "!\"'*,.:;?_~]") (refl, (refl, (refl, (refl, (refl, (refl, (refl, (refl, (refl, (refl, (refl, (refl, tt)))))))))))) b (or_from (trail_mark b) (eqb b 93) h2 h1))
       (and_right c (eqb b 41) (ne_eqb b 41 (λ e. both_ways (trail_mark b) h2 (ap trail_mark e)))))
       ∙ cond-false (eqb b 38 && ltb 0 (prefix_len letter bs) && eqb (get_or bs (prefix_len letter bs) 0) 59) _ 0 (and_left _ _ (and_left _ _ h3))
 
