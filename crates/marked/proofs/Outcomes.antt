@@ -1,9 +1,8 @@
 -- The ends of the call that writes the marked copy of a note.
 -- Assumes nothing.
-use Rattle.std.proofs.Common.{◌≡◌, ℕ, ◌+◌, ◌-◌, ◌*◌, ◌<◌, ◌≤◌, Bool, true, false, cond, leb, List, [], ◌∷◌, ◌++◌, length, take, drop, IfOk, IfErr, Ok, Err, Result, sym, refl, ap, ◌∙◌, subst, ⊎_elim, arith}
+use Rattle.std.proofs.Common.{◌≡◌, ℕ, ◌+◌, ◌-◌, ◌*◌, ◌≤◌, Bool, true, false, cond, leb, List, [], ◌∷◌, ◌++◌, length, take, drop, IfOk, IfErr, Ok, Err, Result, sym, refl, ap, ◌∙◌, subst, ⊎_elim, arith}
 use Rattle.std.proofs.lemmas.List.{take_at}
 use Rattle.std.proofs.lemmas.Bool.{cond-true, cond-false, leb-true, leb-false, le-leb, ltb-false}
-use Rattle.std.specs.List.{AllByRecursion as All}
 use Rattle.text.specs.declared.refusals.Fault.{Fault}
 use Rattle.text.specs.declared.refusals.Fault.TheVariants.{NoteTooLong, BufferTooShort}
 use Rattle.text.specs.declared.spans.Span.{Span}
@@ -57,7 +56,7 @@ pub record Outcome (m m' : EditMap) (s out out' : List ℕ) (r : Result ℕ Faul
   pub answer : r ≡ marked_answer s out
   pub written : out' ≡ marked_written s out
   pub as_new : IfOk r (λ _. AsNew m')
-  pub IfErr : IfErr r (λ _. m' ≡ m)
+  pub refused : IfErr r (λ _. m' ≡ m)
   pub faithful : Faithful s
 
 module _ (m : EditMap) (s out : List ℕ) (k : Known s) where

@@ -1,13 +1,13 @@
 -- An edit put before all edits of a batch, and the batch of the marks of spans.
 -- Assumes nothing.
-use Rattle.std.proofs.Common.{◌≡◌, ℕ, suc, ◌+◌, ◌-◌, ◌*◌, ◌<◌, ◌≤◌, true, false, cond, eqb, ltb, List, [], ◌∷◌, ◌++◌, length, take, drop, sym, refl, ap, ◌∙◌, subst, ⊎_elim, arith}
+use Rattle.std.proofs.Common.{◌≡◌, ℕ, suc, ◌+◌, ◌-◌, ◌*◌, ◌<◌, ◌≤◌, false, cond, eqb, ltb, List, [], ◌∷◌, ◌++◌, length, take, drop, sym, refl, ap, ◌∙◌, subst, ⊎_elim, arith}
 use Rattle.std.proofs.lemmas.List.{append_assoc, drop-drop}
-use Rattle.std.proofs.lemmas.Bool.{cond-true, cond-false, lt-ltb, le-ltb, eq-eqb, eqb-true, cases_Bool, cases_order}
+use Rattle.std.proofs.lemmas.Bool.{cond-true, cond-false, le-ltb, eq-eqb, eqb-true, cases_Bool, cases_order}
 use Rattle.text.specs.declared.spans.Span.{Span}
 use Rattle.edit_map.specs.declared.entries.Side.TheVariants.{Front}
-use Rattle.edit_map.specs.Edits.{Edit, edit, put, count_at, applied, applied_from, past_end, inside_removal}
+use Rattle.edit_map.specs.Edits.{Edit, edit, put, count_at, applied_from, past_end, inside_removal}
 use Rattle.edit_map.specs.Laws.{InOrder}
-use Rattle.marked.specs.Marked.{opening, closing, marked_from, marked_copy}
+use Rattle.marked.specs.Marked.{opening, closing, marked_from}
 use Rattle.marked.specs.Marks.{IsInTurn, with_marks, marks}
 
 -- ---- one edit put before the others

@@ -1,15 +1,13 @@
 -- Marks put into a map, one after another: none is refused.
 -- Assumes nothing.
-use Rattle.std.proofs.Common.{◌≡◌, ℕ, zero, suc, ◌+◌, ◌-◌, ◌*◌, ◌<◌, ◌≤◌, true, false, cond, ◌&&◌, ◌||◌, eqb, ltb, List, [], ◌∷◌, ◌++◌, length, get_or, drop, Ok, Err, Result, sym, refl, ap, ◌∙◌, subst, ⊎_elim, arith}
+use Rattle.std.proofs.Common.{◌≡◌, ℕ, zero, suc, ◌+◌, ◌*◌, ◌<◌, ◌≤◌, false, ◌||◌, eqb, ltb, List, [], ◌∷◌, length, get_or, drop, Ok, sym, ap, ◌∙◌, subst, ⊎_elim, arith}
 use Rattle.std.proofs.lemmas.List.{length-drop, drop_more, drop_all}
 use Rattle.std.proofs.lemmas.Bool.{cond-false, le-ltb, eqb-true, cases_Bool}
-use Rattle.text.specs.declared.refusals.Fault.{Fault}
-use Rattle.text.specs.declared.refusals.Fault.TheVariants.{EditOutOfRange, NoRoomForEdit}
 use Rattle.text.specs.declared.spans.Span.{Span}
 use Rattle.edit_map.specs.declared.entries.Side.TheVariants.{Front}
 use Rattle.edit_map.specs.Edits.{Edit, put, idle, count_at, added_before, add_answer}
 use Rattle.edit_map.specs.Laws.{InOrder}
-use Rattle.marked.specs.Marked.{opening, closing}
+use Rattle.marked.specs.Marked.{closing}
 use Rattle.marked.specs.Marks.{IsInTurn, with_marks, marks}
 use Rattle.marked.proofs.Puts.{put_first, earlier, count_small, marks_of}
 

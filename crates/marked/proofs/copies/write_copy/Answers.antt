@@ -1,4 +1,4 @@
-use Rattle.std.proofs.Common.{ℕ, List, length, IfOk, Result, ap, ◌∙◌, subst, arith}
+use Rattle.std.proofs.Common.{ℕ, length, IfOk, Result, ap, ◌∙◌, subst, arith}
 use Rattle.text.specs.declared.refusals.Fault.{Fault}
 use Rattle.text.specs.Lent.{overwritten}
 use Rattle.edit_map.specs.Edits.{applied, after}
