@@ -2,7 +2,7 @@
 -- And none is of a Link.
 -- Assumes nothing.
 use Rattle.std.proofs.Common.{◌≡◌, ℕ, zero, suc, ◌+◌, ◌-◌, Bool, true, false, cond, not, ◌&&◌, ◌||◌, eqb, ltb, List, [], ◌∷◌, ◌++◌, get_or, Some, None, codes, Option, refl, ap, ◌∙◌, arith}
-use Rattle.std.specs.List.{AllByRecursion as All}
+use Rattle.std.specs.List.{AllByRecursion}
 use Rattle.std.proofs.ByRecursion.{All-push, All-take}
 use Rattle.std.proofs.lemmas.Bool.{cond_both, and_parts, and_right}
 use Rattle.text.specs.Ascii.{letter}
@@ -50,7 +50,7 @@ pub record PutAside (s : List ℕ) (e : Event) : Type 0 where
   pub no-link : is_link e.name ≡ false
 
 abbrev pub Aside : List ℕ → List Event → Type 0
-Aside s es = All (PutAside s) es
+Aside s es = AllByRecursion (PutAside s) es
 
 record KeepsAside (m : Machine) : Type 0 where
   all : Aside m.note m.events

@@ -1,6 +1,6 @@
 -- The examples, computed, and the wrong lists refuted.
 -- Assumes nothing.
-use Rattle.std.proofs.Common.{true, false, List, length, sym, refl, ap, arith}
+use Rattle.std.proofs.Common.{List, length, sym, refl, ap, arith}
 use Rattle.std.proofs.lemmas.Bool.{true≢false}
 use Rattle.text.specs.declared.places.Point.{Point}
 use Rattle.machine.specs.declared.events.Event.{Event}

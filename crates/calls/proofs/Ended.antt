@@ -1,7 +1,7 @@
 -- The events of the segments of a note are lawful, and are what a note read to its end must have.
 -- Assumes nothing.
-use Rattle.std.proofs.Common.{◌≡◌, ℕ, ◌+◌, ◌-◌, ◌<◌, ◌≤◌, Bool, true, false, not, ◌&&◌, eqb, List, [], ◌∷◌, ◌++◌, map, length, sym, refl, ap, ◌∙◌, subst, append_nil, arith}
-use Rattle.std.specs.List.{AllByRecursion as All}
+use Rattle.std.proofs.Common.{◌≡◌, ℕ, ◌+◌, ◌-◌, ◌<◌, ◌≤◌, Bool, true, false, not, ◌&&◌, eqb, List, [], ◌∷◌, ◌++◌, map, length, sym, refl, ap, ◌∙◌, subst, append-nil, arith}
+use Rattle.std.specs.List.{AllByRecursion}
 use Rattle.std.proofs.ByRecursion.{All-weaker}
 use Rattle.std.proofs.lemmas.Bool.{cond-true, and_from, and_left, not_from_false, not_from_true, false≢true}
 use Rattle.text.specs.declared.spans.Span.{Span}
@@ -63,17 +63,17 @@ web-kind Mailto s i h = absurd h
 web-kind Xmpp s i h = absurd h
 
 module _ (member : ℕ → Bool) (s : List ℕ) where
-  one_right : (k : SegmentKind) (a b : ℕ) (ys : List Span) → All (WebSpan member s) (web_span_of k a b ++ ys) → WebRight s k a b × All (WebSpan member s) ys
+  one_right : (k : SegmentKind) (a b : ℕ) (ys : List Span) → AllByRecursion (WebSpan member s) (web_span_of k a b ++ ys) → WebRight s k a b × AllByRecursion (WebSpan member s) ys
   one_right Data a b ys h = (tt, h)
   one_right LineEnding a b ys h = (tt, h)
   one_right (Web kind) a b ys h = ((web-kind kind s a h.0.begins, h.0.no_line_ending), h.1)
 
-  all_right : (xs : List rules.Segment) → All (WebSpan member s) (web_spans xs) → All (λ x. WebRight s x.kind x.from x.to) xs
+  all_right : (xs : List rules.Segment) → AllByRecursion (WebSpan member s) (web_spans xs) → AllByRecursion (λ x. WebRight s x.kind x.from x.to) xs
   all_right [] h = tt
   all_right (x ∷ xs) h = let w = one_right x.kind x.from x.to (web_spans xs) h in (w.0, all_right xs w.1)
 
-  web-right : All (λ x. WebRight s x.kind x.from x.to) (segments member s)
-  web-right = all_right (segments member s) (subst (All (WebSpan member s)) (sym (canonical-segments member s).web) (lawful member s).are_web_spans)
+  web-right : AllByRecursion (λ x. WebRight s x.kind x.from x.to) (segments member s)
+  web-right = all_right (segments member s) (subst (AllByRecursion (WebSpan member s)) (sym (canonical-segments member s).web) (lawful member s).are_web_spans)
 
 -- ---- names
 
@@ -98,7 +98,7 @@ named-tiles : (a b : ℕ) (xs : List rules.Segment) → OneAfterAnother a b xs �
 named-tiles a b [] h = h
 named-tiles a b (x ∷ xs) h = (h.0, h.1.0, named-tiles x.to b xs h.1.1)
 
-named-leaves : (xs : List rules.Segment) → All Leaf (map named xs)
+named-leaves : (xs : List rules.Segment) → AllByRecursion Leaf (map named xs)
 named-leaves [] = tt
 named-leaves (x ∷ xs) = (leaf_for x.kind, named-leaves xs)
 
@@ -109,7 +109,7 @@ data_first_for (x ∷ xs) d h k = (
   subst (λ b. Alone b (map named xs)) (sym (data_for x.kind)) (data_first_for xs (segment-laws.is_data x.kind) k.0 k.1),
 )
 
-named-web : (s : List ℕ) (xs : List rules.Segment) → All (λ x. WebRight s x.kind x.from x.to) xs → with_name is_web_address (map named xs) ≡ map as_named (web_spans xs)
+named-web : (s : List ℕ) (xs : List rules.Segment) → AllByRecursion (λ x. WebRight s x.kind x.from x.to) xs → with_name is_web_address (map named xs) ≡ map as_named (web_spans xs)
 named-web s [] h = refl
 named-web s (x ∷ xs) h = go x.kind h.0 (named-web s xs h.1)
   where
@@ -139,14 +139,14 @@ module _ (s : List ℕ) where
   plain_for LineEnding a b r e = absurd (false≢true e)
   plain_for (Web kind) a b r e = absurd (false≢true e)
 
-  named_standing : (a b : ℕ) (xs : List rules.Segment) → Edge s a → OneAfterAnother a b xs → All (Right s) xs → All (λ x. WebRight s x.kind x.from x.to) xs → All (Standing s) (map named xs)
+  named_standing : (a b : ℕ) (xs : List rules.Segment) → Edge s a → OneAfterAnother a b xs → AllByRecursion (Right s) xs → AllByRecursion (λ x. WebRight s x.kind x.from x.to) xs → AllByRecursion (Standing s) (map named xs)
   named_standing a b [] e t r w = tt
   named_standing a b (x ∷ xs) e t r w =
       let next : Edge s x.to = edge_after_segment x.kind x.from x.to (omega (arith, t.0, t.1.0)) r.0 w.0 in
       (((subst (Edge s) (sym t.0) e, next), plain_for x.kind x.from x.to r.0), named_standing x.to b xs next t.1.1 r.1 w.1)
 
   -- n bytes from a on
-  named-lines : (n a b : ℕ) (xs : List rules.Segment) → a + n ≡ b → Edge s a → OneAfterAnother a b xs → All (Right s) xs → All (λ x. WebRight s x.kind x.from x.to) xs → with_name is_line_ending (map named xs) ≡ line_endings_from s n a
+  named-lines : (n a b : ℕ) (xs : List rules.Segment) → a + n ≡ b → Edge s a → OneAfterAnother a b xs → AllByRecursion (Right s) xs → AllByRecursion (λ x. WebRight s x.kind x.from x.to) xs → with_name is_line_ending (map named xs) ≡ line_endings_from s n a
   named-lines n a b [] e edge t r w = let z : 0 ≡ n = omega arith in ap (λ m. line_endings_from s m a) z
   named-lines n a b (x ∷ xs) e edge t r w =
       let hi = cover_le x.to b xs t.1.1 in
@@ -168,21 +168,21 @@ module _ (member : ℕ → Bool) (note : List ℕ) where
   pub segment-tiles : Tiles 0 (length note) (ended_spans member note)
   segment-tiles = named-tiles 0 (length note) (segments member note) (canonical-segments member note).cover
 
-  pub segment-leaves : All Leaf (ended_spans member note)
+  pub segment-leaves : AllByRecursion Leaf (ended_spans member note)
   segment-leaves = named-leaves (segments member note)
 
   pub segment_alone : Alone false (ended_spans member note)
   segment_alone = data_first_for (segments member note) false refl (canonical-segments member note).apart
 
-  pub segment_standing : All (Standing note) (ended_spans member note)
+  pub segment_standing : AllByRecursion (Standing note) (ended_spans member note)
   segment_standing =
       let c = canonical-segments member note in
       named_standing note 0 (length note) (segments member note) refl c.cover c.right (web-right member note)
 
-  pub segment-no-mail : All (λ x. is_mail_address x.name ≡ false) (ended_spans member note)
+  pub segment-no-mail : AllByRecursion (λ x. is_mail_address x.name ≡ false) (ended_spans member note)
   segment-no-mail = go (segments member note) (web-right member note)
     where
-      go : (xs : List rules.Segment) → All (λ x. WebRight note x.kind x.from x.to) xs → All (λ x. is_mail_address x.name ≡ false) (map named xs)
+      go : (xs : List rules.Segment) → AllByRecursion (λ x. WebRight note x.kind x.from x.to) xs → AllByRecursion (λ x. is_mail_address x.name ≡ false) (map named xs)
       go [] h = tt
       go (x ∷ xs) h = (no_mail_for note x.kind x.from x.to h.0, go xs h.1)
 
@@ -196,9 +196,9 @@ module _ (member : ℕ → Bool) (note : List ℕ) where
 
 -- ---- and their events
 
-pub lawful-events : (note : List ℕ) (xs : List Segment) → Tiles 0 (length note) xs → All (AtEdges note) xs → LawfulEvents note (events_of note xs)
+pub lawful-events : (note : List ℕ) (xs : List Segment) → Tiles 0 (length note) xs → AllByRecursion (AtEdges note) xs → LawfulEvents note (events_of note xs)
 lawful-events note xs t k =
-    subst (LawfulEvents note) (append_nil (events_of note xs))
+    subst (LawfulEvents note) (append-nil (events_of note xs))
     (record { nested = nests-events note xs [] [] (tiles_full xs 0 (length note) t) refl; placed = placed-events note xs 0 (length note) [] t (omega arith) k tt })
 
 module _ (member : ℕ → Bool) (note : List ℕ) where
@@ -211,9 +211,9 @@ module _ (member : ℕ → Bool) (note : List ℕ) where
       let all-leaves = leaves_of note xs (segment-leaves member note) in
       let tiles = segment-tiles member note in
       record {
-        all_closed = ap (open_last []) (sym (append_nil (events_of note xs))) ∙ open_events note xs [] [];
-        forward = ap (goes_forward 0) (sym (append_nil (events_of note xs))) ∙ forward-events note xs 0 (length note) [] tiles refl;
-        flat = ap (only_links_hold []) (sym (append_nil (events_of note xs))) ∙ only_links_events note xs [] [] tt (segment-leaves member note) refl;
+        all_closed = ap (open_last []) (sym (append-nil (events_of note xs))) ∙ open_events note xs [] [];
+        forward = ap (goes_forward 0) (sym (append-nil (events_of note xs))) ∙ forward-events note xs 0 (length note) [] tiles refl;
+        flat = ap (only_links_hold []) (sym (append-nil (events_of note xs))) ∙ only_links_events note xs [] [] tt (segment-leaves member note) refl;
         web = ap (with_name is_web_address) (spans_of note xs) ∙ segment-web member note;
         lines = ap (with_name is_line_ending) (spans_of note xs) ∙ segment-lines member note;
         ordered = ap (in_order 0) all-leaves ∙ tiles-ordered xs 0 (length note) tiles;

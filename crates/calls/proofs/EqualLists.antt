@@ -1,7 +1,7 @@
 -- Two lawful event lists with the same Link spans and the same other spans are equal.
 -- Assumes nothing.
 use Rattle.std.proofs.Common.{◌≡◌, ℕ, ◌<◌, ◌≤◌, Bool, true, false, not, ◌&&◌, ltb, leb, ◌⊎◌, List, [], ◌∷◌, ◌++◌, length, filter, sym, refl, ap, ◌∙◌, subst, inl, inr, ⊎_elim, arith}
-use Rattle.std.specs.List.{AllByRecursion as All}
+use Rattle.std.specs.List.{AllByRecursion}
 use Rattle.std.proofs.lemmas.Bool.{cases_Bool, both_ways, cond-true, cond-false, and_parts, leb-true, ltb-true, eqb-true, not-true, not_from_false, not_from_true, true≢false}
 use Rattle.text.specs.Places.{point_at}
 use Rattle.machine.specs.declared.events.Event.{Event}
@@ -19,7 +19,7 @@ pub record Fits (note : List ℕ) (still : List Event) (p : ℕ) (es : List Even
   pub nested : nests still es ≡ true
   pub holds : only_links_hold still es ≡ true
   pub onward : goes_forward p es ≡ true
-  pub placed : All (Placed note) es
+  pub placed : AllByRecursion (Placed note) es
   pub closed : open_last still es ≡ []
 
 record Step (note : List ℕ) (still : List Event) (p : ℕ) (e : Event) (es : List Event) (d : EventKind) : Type 0 where
@@ -77,19 +77,19 @@ leaf_closed note still e (g ∷ es) p h f =
 
 -- ---- spans begin where their enters stand
 
-bound : (c : Name → Bool) (q : ℕ) (es still : List Event) (p : ℕ) → q ≤ p → goes_forward p es ≡ true → All (λ o. c o.name ≡ true → q ≤ o.point.index) still → All (λ x. c x.name ≡ true → q ≤ x.from) (spans_from still es)
+bound : (c : Name → Bool) (q : ℕ) (es still : List Event) (p : ℕ) → q ≤ p → goes_forward p es ≡ true → AllByRecursion (λ o. c o.name ≡ true → q ≤ o.point.index) still → AllByRecursion (λ x. c x.name ≡ true → q ≤ x.from) (spans_from still es)
 bound c q [] still p le h o = tt
 bound c q (e ∷ es) still p le h o =
     let s = and_parts (leb p e.point.index) (goes_forward e.point.index es) h in
     let lo = leb-true p e.point.index s.0 in
     go e.kind still o (λ still' o'. bound c q es still' e.point.index (omega arith) s.1 o') lo
   where
-    go : (d : EventKind) (still : List Event) → All (λ o. c o.name ≡ true → q ≤ o.point.index) still → ((still' : List Event) → All (λ o. c o.name ≡ true → q ≤ o.point.index) still' → All (λ x. c x.name ≡ true → q ≤ x.from) (spans_from still' es)) → p ≤ e.point.index → All (λ x. c x.name ≡ true → q ≤ x.from) (closed_by d still e ++ spans_from (open_then d still e) es)
+    go : (d : EventKind) (still : List Event) → AllByRecursion (λ o. c o.name ≡ true → q ≤ o.point.index) still → ((still' : List Event) → AllByRecursion (λ o. c o.name ≡ true → q ≤ o.point.index) still' → AllByRecursion (λ x. c x.name ≡ true → q ≤ x.from) (spans_from still' es)) → p ≤ e.point.index → AllByRecursion (λ x. c x.name ≡ true → q ≤ x.from) (closed_by d still e ++ spans_from (open_then d still e) es)
     go Enter still o rec lo = rec (e ∷ still) ((λ _. omega arith), o)
     go Exit [] o rec lo = rec [] tt
     go Exit (x ∷ still) o rec lo = (o.0, rec still o.1)
 
-pub kept-head : (c : Segment → Bool) (P : Segment → Type 0) (xs : List Segment) (x : Segment) (rest : List Segment) → All (λ y. c y ≡ true → P y) xs → filter c xs ≡ x ∷ rest → P x
+pub kept-head : (c : Segment → Bool) (P : Segment → Type 0) (xs : List Segment) (x : Segment) (rest : List Segment) → AllByRecursion (λ y. c y ≡ true → P y) xs → filter c xs ≡ x ∷ rest → P x
 kept-head c P [] x rest h e = absurd (no_cons x rest (sym e))
 kept-head c P (y ∷ ys) x rest h e =
     ⊎_elim
@@ -106,7 +106,7 @@ record Next (still : List Event) (o : Event) (p : ℕ) (es : List Event) : Type 
   from : link.from ≡ o.point.index
   to : p ≤ link.to
 
-link-closed : (note : List ℕ) (o : Event) → is_link o.name ≡ true → (es above : List Event) (p : ℕ) → All (λ x. is_link x.name ≡ false) above → length above ≤ 1 → Fits note (above ++ o ∷ []) p es → Next (above ++ o ∷ []) o p es
+link-closed : (note : List ℕ) (o : Event) → is_link o.name ≡ true → (es above : List Event) (p : ℕ) → AllByRecursion (λ x. is_link x.name ≡ false) above → length above ≤ 1 → Fits note (above ++ o ∷ []) p es → Next (above ++ o ∷ []) o p es
 link-closed note o h [] [] p a l f = absurd (no_cons o [] f.closed)
 link-closed note o h [] (x ∷ xs) p a l f = absurd (no_cons x (xs ++ o ∷ []) f.closed)
 link-closed note o h (e ∷ es) [] p a l f =

@@ -1,7 +1,7 @@
 -- The note with the most events: 1,024 line feeds, of which 64 are marked, each as a link of its own.
 -- Assumes nothing.
-use Rattle.std.proofs.Common.{◌≡◌, ℕ, zero, suc, ◌+◌, ◌<◌, Bool, true, false, eqb, List, [], ◌∷◌, length, get_or, replicate, sym, refl, ap, ◌∙◌, subst, arith}
-use Rattle.std.specs.List.{AllByRecursion as All}
+use Rattle.std.proofs.Common.{◌≡◌, ℕ, zero, suc, ◌+◌, ◌<◌, Bool, true, eqb, List, [], ◌∷◌, length, get_or, replicate, sym, refl, ap, ◌∙◌, subst, arith}
+use Rattle.std.specs.List.{AllByRecursion}
 use Rattle.std.proofs.lemmas.List.{get_or-replicate, length-replicate}
 use Rattle.std.proofs.lemmas.Bool.{and_left, cond-false, true≢false}
 use Rattle.text.specs.declared.spans.Span.{Span}
@@ -38,7 +38,7 @@ module _ (n : ℕ) where
   ends-cover zero i e = omega arith
   ends-cover (suc k) i e = (refl, (omega arith, ends-cover k (i + 1) (omega arith)))
 
-  ends-right : (k i : ℕ) → i + k ≡ n → All (Right (feeds n)) (ends k i)
+  ends-right : (k i : ℕ) → i + k ≡ n → AllByRecursion (Right (feeds n)) (ends k i)
   ends-right zero i e = tt
   ends-right (suc k) i e =
       let here = feed_at i (omega arith) in
@@ -54,7 +54,7 @@ module _ (n : ℕ) where
 
   module _ (member : ℕ → Bool) where
     -- a web span has no byte of a line ending
-    none : (xs : List Span) → InTextOrder 0 xs → All (WebSpan member (feeds n)) xs → xs ≡ []
+    none : (xs : List Span) → InTextOrder 0 xs → AllByRecursion (WebSpan member (feeds n)) xs → xs ≡ []
     none [] o h = refl
     none (x ∷ xs) o h =
         let inside : x.from < n = omega (arith, o.0.1, h.0.within, long) in

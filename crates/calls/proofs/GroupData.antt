@@ -1,7 +1,7 @@
 -- Of the spans of groups: which data is split and which is whole, and that the mail spans are the addresses outside the marked runs.
 -- Assumes nothing.
-use Rattle.std.proofs.Common.{◌≡◌, ℕ, ◌+◌, ◌-◌, ◌<◌, ◌≤◌, Bool, true, false, cond, ◌||◌, leb, ◌⊎◌, List, [], ◌∷◌, ◌++◌, length, filter, sym, refl, ap, ◌∙◌, inl, inr, ⊎_elim, append_nil, arith}
-use Rattle.std.specs.List.{AllByRecursion as All}
+use Rattle.std.proofs.Common.{◌≡◌, ℕ, ◌<◌, ◌≤◌, Bool, true, false, cond, ◌||◌, leb, ◌⊎◌, List, [], ◌∷◌, ◌++◌, length, filter, sym, refl, ap, ◌∙◌, inl, inr, ⊎_elim, append-nil, arith}
+use Rattle.std.specs.List.{AllByRecursion}
 use Rattle.std.proofs.lemmas.List.Elements.{filter-append}
 use Rattle.std.proofs.ByRecursion.{All-weaker, all_kept_by}
 use Rattle.std.proofs.lemmas.Bool.{both_ways, cond-true, and_from, and_left, and_right, or_left, or_from, le-leb, lt-leb}
@@ -80,7 +80,7 @@ stands note (group xs ys g) x a b le t s h =
           (runs_after g x v.0 b v.2 s.1 (omega (arith, p.1, p.2))),
       parts
           ∙ (λ i. inside x (splits_expand note xs i) ++ (inside-after x ys w.0 v.0 v.1 p.2 i ++ inside-after x (group_leaves note g) v.0 b last (omega (arith, p.2)) i))
-          ∙ append_nil (inside x (expand (split note) xs))
+          ∙ append-nil (inside x (expand (split note) xs))
           ∙ inside_expand (split note) (length note) (split-tiles note) x xs a w.0 (omega arith) w.1 k,
     ))
     (λ k. ⊎_elim
@@ -90,7 +90,7 @@ stands note (group xs ys g) x a b le t s h =
       or_left here (within (group_links g) x) (and_from (leb (begin ys) x.from) (leb x.to (finish ys)) (le-leb (begin ys) x.from (omega (arith, p.0))) (le-leb x.to (finish ys) (omega (arith, p.2)))),
       parts
           ∙ (λ i. inside-before x (splits note xs) a w.0 first p.0 i ++ (inside x (same_expand ys i) ++ inside-after x (group_leaves note g) v.0 b last p.2 i))
-          ∙ append_nil (inside x (expand (λ y. y ∷ []) ys))
+          ∙ append-nil (inside x (expand (λ y. y ∷ []) ys))
           ∙ inside_expand (λ y. y ∷ []) (length note) (λ y lt _. (refl, lt, refl)) x ys w.0 v.0 (omega arith) v.1 j,
     ))
     (λ j.
@@ -117,15 +117,15 @@ outside_append note rs (x ∷ xs) ys =
     ap (λ l. cond (within rs x) [] (mail_in note x) ++ l) (outside_append note rs xs ys)
     ∙ sym (Rattle.std.proofs.lemmas.List.append_assoc (cond (within rs x) [] (mail_in note x)) (mail_outside note rs xs) (mail_outside note rs ys))
 
-outside_same : (note : List ℕ) (rs qs xs : List Segment) → All (λ x. within rs x ≡ within qs x) xs → mail_outside note rs xs ≡ mail_outside note qs xs
+outside_same : (note : List ℕ) (rs qs xs : List Segment) → AllByRecursion (λ x. within rs x ≡ within qs x) xs → mail_outside note rs xs ≡ mail_outside note qs xs
 outside_same note rs qs [] h = refl
 outside_same note rs qs (x ∷ xs) h = λ i. cond (h.0 i) [] (mail_in note x) ++ outside_same note rs qs xs h.1 i
 
-outside_none : (note : List ℕ) (rs xs : List Segment) → All (λ x. within rs x ≡ true) xs → mail_outside note rs xs ≡ []
+outside_none : (note : List ℕ) (rs xs : List Segment) → AllByRecursion (λ x. within rs x ≡ true) xs → mail_outside note rs xs ≡ []
 outside_none note rs [] h = refl
 outside_none note rs (x ∷ xs) h = λ i. cond (h.0 i) [] (mail_in note x) ++ outside_none note rs xs h.1 i
 
-splits-mail : (note : List ℕ) (rs xs : List Segment) → All (λ x. within rs x ≡ false) xs → All NotMail xs → with_name is_mail_address (splits note xs) ≡ mail_outside note rs (with_name is_data xs)
+splits-mail : (note : List ℕ) (rs xs : List Segment) → AllByRecursion (λ x. within rs x ≡ false) xs → AllByRecursion NotMail xs → with_name is_mail_address (splits note xs) ≡ mail_outside note rs (with_name is_data xs)
 splits-mail note rs [] h k = refl
 splits-mail note rs (x ∷ xs) h k =
     filter-append mailing (split note x) (splits note xs) ∙ go (is_data x.name) refl (splits-mail note rs xs h.1 k.1)
@@ -136,13 +136,13 @@ splits-mail note rs (x ∷ xs) h k =
         ∙ ap (λ b. cond b [] (mail_in note x) ++ mail_outside note rs (with_name is_data xs)) (sym h.0)
     go false e rec = λ i. kept-none mailing (x ∷ []) (k.0, tt) i ++ rec i
 
-tiles-all : (xs : List Segment) (lo a b hi : ℕ) → lo ≤ a → Tiles a b xs → b ≤ hi → All (λ x. (lo ≤ x.from) × (x.from < x.to) × (x.to ≤ hi)) xs
+tiles-all : (xs : List Segment) (lo a b hi : ℕ) → lo ≤ a → Tiles a b xs → b ≤ hi → AllByRecursion (λ x. (lo ≤ x.from) × (x.from < x.to) × (x.to ≤ hi)) xs
 tiles-all [] lo a b hi l t h = tt
 tiles-all (x ∷ xs) lo a b hi l t h =
     let stands_right = tiles_le xs x.to b t.2 in
     ((omega (arith, t.0), omega (arith, t.0, t.1), omega arith), tiles-all xs lo x.to b hi (omega (arith, t.1)) t.2 h)
 
-pub mail_group : (note : List ℕ) (g : Groups) (a b : ℕ) → b ≤ length note → Tiles a b (flat g) → NoneEmpty g → All NotMail (flat g) → with_name is_mail_address (group_spans note g) ≡ mail_outside note (group_links g) (with_name is_data (flat g))
+pub mail_group : (note : List ℕ) (g : Groups) (a b : ℕ) → b ≤ length note → Tiles a b (flat g) → NoneEmpty g → AllByRecursion NotMail (flat g) → with_name is_mail_address (group_spans note g) ≡ mail_outside note (group_links g) (with_name is_data (flat g))
 unfolding group_spans
 mail_group note (rest xs) a b le t s n = splits-mail note [] xs (All-weaker (λ x. (a ≤ x.from) × (x.from < x.to) × (x.to ≤ b)) (λ x. within [] x ≡ false) (λ _ _. refl) xs (tiles-all xs a a b b (omega arith) t (omega arith))) n
 mail_group note (group xs ys g) a b le t s n =
@@ -156,13 +156,13 @@ mail_group note (group xs ys g) a b le t s n =
     let r = span name.Link (begin ys) (finish ys) in
     let rs = group_links g in
     let P : ℕ → ℕ → Segment → Type 0 = λ lo hi x. (lo ≤ x.from) × (x.from < x.to) × (x.to ≤ hi) in
-    let before : All (λ x. within (r ∷ rs) x ≡ false) xs =
+    let before : AllByRecursion (λ x. within (r ∷ rs) x ≡ false) xs =
     All-weaker (P a w.0) (λ x. within (r ∷ rs) x ≡ false) (λ x h. or_from (covers r x) (within rs x) (and_left (leb (begin ys) x.from) (leb x.to (finish ys)) (lt-leb (begin ys) x.from (omega (arith, h.1, h.2)))) (runs_after g x v.0 b v.2 s.1 (omega (arith, h.1, h.2)))) xs
     (tiles-all xs a a w.0 w.0 (omega arith) w.1 (omega arith)) in
-    let here : All (λ x. within (r ∷ rs) x ≡ true) ys =
+    let here : AllByRecursion (λ x. within (r ∷ rs) x ≡ true) ys =
     All-weaker (P w.0 v.0) (λ x. within (r ∷ rs) x ≡ true) (λ x h. or_left (covers r x) (within rs x) (and_from (leb (begin ys) x.from) (leb x.to (finish ys)) (le-leb (begin ys) x.from (omega (arith, h.0))) (le-leb x.to (finish ys) (omega (arith, h.2))))) ys
     (tiles-all ys w.0 w.0 v.0 v.0 (omega arith) v.1 (omega arith)) in
-    let later : All (λ x. within (r ∷ rs) x ≡ within rs x) (flat g) =
+    let later : AllByRecursion (λ x. within (r ∷ rs) x ≡ within rs x) (flat g) =
     All-weaker (P v.0 b) (λ x. within (r ∷ rs) x ≡ within rs x) (λ x h. ap (λ u. u || within rs x) (and_right (leb (begin ys) x.from) (leb x.to (finish ys)) (lt-leb x.to (finish ys) (omega (arith, h.0, h.1))))) (flat g)
     (tiles-all (flat g) v.0 v.0 b b (omega arith) v.2 (omega arith)) in
     let isD : Segment → Bool = λ x. is_data x.name in

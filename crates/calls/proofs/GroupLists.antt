@@ -1,7 +1,7 @@
 -- The events of groups, marked runs among other spans: their spans, and that they nest, are placed and go forward.
 -- Assumes nothing.
-use Rattle.std.proofs.Common.{◌≡◌, ℕ, ◌+◌, ◌-◌, ◌<◌, ◌≤◌, Bool, true, false, cond, ◌&&◌, ltb, leb, List, [], ◌∷◌, ◌++◌, length, filter, sym, refl, ap, ◌∙◌, subst, append_nil, arith}
-use Rattle.std.specs.List.{AllByRecursion as All}
+use Rattle.std.proofs.Common.{◌≡◌, ℕ, ◌<◌, ◌≤◌, Bool, true, false, cond, ◌&&◌, ltb, leb, List, [], ◌∷◌, ◌++◌, length, filter, sym, refl, ap, ◌∙◌, subst, append-nil, arith}
+use Rattle.std.specs.List.{AllByRecursion}
 use Rattle.std.proofs.lemmas.List.Elements.{filter-append}
 use Rattle.std.proofs.ByRecursion.{All-append, All-weaker}
 use Rattle.std.proofs.lemmas.Bool.{cond-false, cond_both, and_from, lt-ltb, le-leb, not_from_false, true≢false}
@@ -38,24 +38,24 @@ spans_group note (group xs ys g) =
     ∙ ap (λ l. splits note xs ++ l) (spans-events note ys (event_at note Enter name.Link (begin ys) ∷ []) (event_at note Exit name.Link (finish ys) ∷ group_events note g))
     ∙ ap (λ l. splits note xs ++ (ys ++ (span name.Link (begin ys) (finish ys) ∷ l))) (spans_group note g)
 
-pub all_split : (P : Segment → Type 0) (xs ys : List Segment) → All P (xs ++ ys) → All P xs × All P ys
+pub all_split : (P : Segment → Type 0) (xs ys : List Segment) → AllByRecursion P (xs ++ ys) → AllByRecursion P xs × AllByRecursion P ys
 all_split P [] ys h = (tt, h)
 all_split P (x ∷ xs) ys h = let w = all_split P xs ys h.1 in ((h.0, w.0), w.1)
 
-split-leaves : (note : List ℕ) (x : Segment) → Leaf x → All Leaf (split note x)
+split-leaves : (note : List ℕ) (x : Segment) → Leaf x → AllByRecursion Leaf (split note x)
 split-leaves note x h =
-    cond_both (is_data x.name) (filled x.from (mail_in note x) x.to) (x ∷ []) (All Leaf)
+    cond_both (is_data x.name) (filled x.from (mail_in note x) x.to) (x ∷ []) (AllByRecursion Leaf)
     (λ _. all-filled Leaf (λ a b. refl) (mail_in note x) x.from x.to (All-weaker (λ y. is_mail_address y.name ≡ true) Leaf (λ y e. mail_leaf y.name e) (mail_in note x) (mail-is-mail note x)))
     (λ _. (h, tt))
 
-splits-leaves : (note : List ℕ) (xs : List Segment) → All Leaf xs → All Leaf (splits note xs)
+splits-leaves : (note : List ℕ) (xs : List Segment) → AllByRecursion Leaf xs → AllByRecursion Leaf (splits note xs)
 splits-leaves note [] h = tt
 splits-leaves note (x ∷ xs) h = All-append Leaf (split note x) (splits note xs) (split-leaves note x h.0) (splits-leaves note xs h.1)
 
-leaves_kept : (xs : List Segment) → All Leaf xs → filter unlinked xs ≡ xs
+leaves_kept : (xs : List Segment) → AllByRecursion Leaf xs → filter unlinked xs ≡ xs
 leaves_kept xs h = kept-all unlinked xs (All-weaker Leaf (λ x. unlinked x ≡ true) (λ x e. not_from_false (is_link x.name) e) xs h)
 
-pub leaves_group : (note : List ℕ) (g : Groups) → All Leaf (flat g) → filter unlinked (group_spans note g) ≡ group_leaves note g
+pub leaves_group : (note : List ℕ) (g : Groups) → AllByRecursion Leaf (flat g) → filter unlinked (group_spans note g) ≡ group_leaves note g
 unfolding group_spans
 leaves_group note (rest xs) h = leaves_kept (splits note xs) (splits-leaves note xs h)
 leaves_group note (group xs ys g) h =
@@ -65,7 +65,7 @@ leaves_group note (group xs ys g) h =
     ∙ (λ i. leaves_kept (splits note xs) (splits-leaves note xs a.0) i ++ filter-append unlinked ys (span name.Link (begin ys) (finish ys) ∷ group_spans note g) i)
     ∙ (λ i. splits note xs ++ (leaves_kept ys b.0 i ++ leaves_group note g b.1 i))
 
-pub links_group : (note : List ℕ) (g : Groups) → All Leaf (flat g) → with_name is_link (group_spans note g) ≡ group_links g
+pub links_group : (note : List ℕ) (g : Groups) → AllByRecursion Leaf (flat g) → with_name is_link (group_spans note g) ≡ group_links g
 unfolding group_spans
 links_group note (rest xs) h = kept-none (λ x. is_link x.name) (splits note xs) (splits-leaves note xs h)
 links_group note (group xs ys g) h =
@@ -128,7 +128,7 @@ some-tiles : (ys : List Segment) (a b : ℕ) → Tiles a b ys → 0 < length ys 
 some-tiles [] a b t lt = absurd (omega arith)
 some-tiles (y ∷ ys) a b t lt = let hi = tiles_le ys y.to b t.2 in omega (arith, t.1)
 
-outer_edges : (note : List ℕ) (ys : List Segment) → All (AtEdges note) ys → 0 < length ys → Edge note (begin ys) × Edge note (finish ys)
+outer_edges : (note : List ℕ) (ys : List Segment) → AllByRecursion (AtEdges note) ys → 0 < length ys → Edge note (begin ys) × Edge note (finish ys)
 outer_edges note [] h lt = absurd (omega arith)
 outer_edges note (y ∷ []) h lt = h.0
 outer_edges note (y ∷ z ∷ zs) h lt = (h.0.0, (outer_edges note (z ∷ zs) h.1 (omega arith)).1)
@@ -136,7 +136,7 @@ outer_edges note (y ∷ z ∷ zs) h lt = (h.0.0, (outer_edges note (z ∷ zs) h.
 -- ---- events
 
 pub group_nests : (note : List ℕ) (g : Groups) (a b : ℕ) → b ≤ length note → Tiles a b (flat g) → NoneEmpty g → nests [] (group_events note g) ≡ true
-group_nests note (rest xs) a b le t s = ap (nests []) (sym (append_nil (events_of note (splits note xs)))) ∙ nests-events note (splits note xs) [] [] (tiles_full (splits note xs) a b (splits-tiles note xs a b le t)) refl
+group_nests note (rest xs) a b le t s = ap (nests []) (sym (append-nil (events_of note (splits note xs)))) ∙ nests-events note (splits note xs) [] [] (tiles_full (splits note xs) a b (splits-tiles note xs a b le t)) refl
 group_nests note (group xs ys g) a b le t s =
     let w = tiles-split xs (ys ++ flat g) a b t in
     let v = tiles-split ys (flat g) w.0 b w.2 in
@@ -148,22 +148,22 @@ group_nests note (group xs ys g) a b le t s =
     (and_from (ltb (begin ys) (finish ys)) (nests [] (group_events note g)) (lt-ltb (begin ys) (finish ys) lt) (group_nests note g v.0 b le v.2 s.1)))
 
 pub group_open : (note : List ℕ) (g : Groups) → open_last [] (group_events note g) ≡ []
-group_open note (rest xs) = ap (open_last []) (sym (append_nil (events_of note (splits note xs)))) ∙ open_events note (splits note xs) [] []
+group_open note (rest xs) = ap (open_last []) (sym (append-nil (events_of note (splits note xs)))) ∙ open_events note (splits note xs) [] []
 group_open note (group xs ys g) =
     open_events note (splits note xs) [] (event_at note Enter name.Link (begin ys) ∷ (events_of note ys ++ (event_at note Exit name.Link (finish ys) ∷ group_events note g)))
     ∙ open_events note ys (event_at note Enter name.Link (begin ys) ∷ []) (event_at note Exit name.Link (finish ys) ∷ group_events note g)
     ∙ group_open note g
 
-pub group_holds : (note : List ℕ) (g : Groups) → All Leaf (flat g) → only_links_hold [] (group_events note g) ≡ true
-group_holds note (rest xs) h = ap (only_links_hold []) (sym (append_nil (events_of note (splits note xs)))) ∙ only_links_events note (splits note xs) [] [] tt (splits-leaves note xs h) refl
+pub group_holds : (note : List ℕ) (g : Groups) → AllByRecursion Leaf (flat g) → only_links_hold [] (group_events note g) ≡ true
+group_holds note (rest xs) h = ap (only_links_hold []) (sym (append-nil (events_of note (splits note xs)))) ∙ only_links_events note (splits note xs) [] [] tt (splits-leaves note xs h) refl
 group_holds note (group xs ys g) h =
     let a = all_split Leaf xs (ys ++ flat g) h in
     let b = all_split Leaf ys (flat g) a.1 in
     only_links_events note (splits note xs) [] (event_at note Enter name.Link (begin ys) ∷ (events_of note ys ++ (event_at note Exit name.Link (finish ys) ∷ group_events note g))) tt (splits-leaves note xs a.0)
     (only_links_events note ys (event_at note Enter name.Link (begin ys) ∷ []) (event_at note Exit name.Link (finish ys) ∷ group_events note g) refl b.0 (group_holds note g b.1))
 
-pub group_placed : (note : List ℕ) (g : Groups) (a b : ℕ) → b ≤ length note → Tiles a b (flat g) → All (Standing note) (flat g) → NoneEmpty g → All (Placed note) (group_events note g)
-group_placed note (rest xs) a b le t k s = subst (All (Placed note)) (append_nil (events_of note (splits note xs))) (placed-events note (splits note xs) a b [] (splits-tiles note xs a b le t) le (splits_edges note xs a b le t k) tt)
+pub group_placed : (note : List ℕ) (g : Groups) (a b : ℕ) → b ≤ length note → Tiles a b (flat g) → AllByRecursion (Standing note) (flat g) → NoneEmpty g → AllByRecursion (Placed note) (group_events note g)
+group_placed note (rest xs) a b le t k s = subst (AllByRecursion (Placed note)) (append-nil (events_of note (splits note xs))) (placed-events note (splits note xs) a b [] (splits-tiles note xs a b le t) le (splits_edges note xs a b le t k) tt)
 group_placed note (group xs ys g) a b le t k s =
     let w = tiles-split xs (ys ++ flat g) a b t in
     let v = tiles-split ys (flat g) w.0 b w.2 in
@@ -171,7 +171,7 @@ group_placed note (group xs ys g) a b le t k s =
     let q = all_split (Standing note) ys (flat g) p.1 in
     let hi = tiles_le (ys ++ flat g) w.0 b w.2 in
     let hi2 = tiles_le (flat g) v.0 b v.2 in
-    let edges : All (AtEdges note) ys = All-weaker (Standing note) (AtEdges note) (λ x h. h.0) ys q.0 in
+    let edges : AllByRecursion (AtEdges note) ys = All-weaker (Standing note) (AtEdges note) (λ x h. h.0) ys q.0 in
     let outer = outer_edges note ys edges s.0 in
     placed-events note (splits note xs) a w.0 (event_at note Enter name.Link (begin ys) ∷ (events_of note ys ++ (event_at note Exit name.Link (finish ys) ∷ group_events note g)))
     (splits-tiles note xs a w.0 (omega arith) w.1) (omega arith) (splits_edges note xs a w.0 (omega arith) w.1 p.0) (
@@ -181,7 +181,7 @@ group_placed note (group xs ys g) a b le t k s =
     )
 
 pub group_forward : (note : List ℕ) (g : Groups) (a b : ℕ) → b ≤ length note → Tiles a b (flat g) → NoneEmpty g → goes_forward a (group_events note g) ≡ true
-group_forward note (rest xs) a b le t s = ap (goes_forward a) (sym (append_nil (events_of note (splits note xs)))) ∙ forward-events note (splits note xs) a b [] (splits-tiles note xs a b le t) refl
+group_forward note (rest xs) a b le t s = ap (goes_forward a) (sym (append-nil (events_of note (splits note xs)))) ∙ forward-events note (splits note xs) a b [] (splits-tiles note xs a b le t) refl
 group_forward note (group xs ys g) a b le t s =
     let w = tiles-split xs (ys ++ flat g) a b t in
     let v = tiles-split ys (flat g) w.0 b w.2 in
@@ -199,7 +199,7 @@ group_forward note (group xs ys g) a b le t s =
 
 -- ---- no two Data spans in a row
 
-alone_filled : (xs : List Segment) (a b : ℕ) (ys : List Segment) → All (λ x. is_data x.name ≡ false) xs → Alone true ys → Alone false (filled a xs b ++ ys)
+alone_filled : (xs : List Segment) (a b : ℕ) (ys : List Segment) → AllByRecursion (λ x. is_data x.name ≡ false) xs → Alone true ys → Alone false (filled a xs b ++ ys)
 alone_filled [] a b ys h k = elim (ltb a b) as (λ v. Alone false (cond v (span name.Data a b ∷ []) [] ++ ys)) [ true ↦ (refl, k) | false ↦ alone_weaken true ys k ]
 alone_filled (x ∷ xs) a b ys h k =
     let r : Alone (is_data x.name) (filled x.to xs b ++ ys) = subst (λ d. Alone d (filled x.to xs b ++ ys)) (sym h.0) (alone_filled xs x.to b ys h.1 k) in
@@ -231,6 +231,6 @@ alone_same (x ∷ xs) ys zs f d h = (h.0, alone_same xs ys zs f (is_data x.name)
 
 pub group_alone : (note : List ℕ) (g : Groups) (d : Bool) → Alone d (flat g) → Alone d (group_leaves note g)
 group_alone note (rest xs) d h =
-    subst (Alone d) (append_nil (splits note xs)) (alone_splits note xs [] [] (λ _ k. k) d (subst (Alone d) (sym (append_nil xs)) h))
+    subst (Alone d) (append-nil (splits note xs)) (alone_splits note xs [] [] (λ _ k. k) d (subst (Alone d) (sym (append-nil xs)) h))
 group_alone note (group xs ys g) d h =
     alone_splits note xs (ys ++ flat g) (ys ++ group_leaves note g) (λ d k. alone_same ys (flat g) (group_leaves note g) (λ d k. group_alone note g d k) d k) d h

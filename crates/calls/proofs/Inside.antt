@@ -1,7 +1,7 @@
 -- Which spans of a covered stretch lie inside one of the spans that it was made from.
 -- Assumes nothing.
-use Rattle.std.proofs.Common.{◌≡◌, ℕ, ◌<◌, ◌≤◌, true, leb, ◌⊎◌, List, [], ◌∷◌, ◌++◌, sym, refl, ap, ◌∙◌, subst, ⊎_elim, append_nil, arith}
-use Rattle.std.specs.List.{AllByRecursion as All}
+use Rattle.std.proofs.Common.{◌≡◌, ℕ, ◌<◌, ◌≤◌, true, leb, List, [], ◌∷◌, ◌++◌, sym, refl, ap, ◌∙◌, subst, ⊎_elim, append-nil, arith}
+use Rattle.std.specs.List.{AllByRecursion}
 use Rattle.std.proofs.lemmas.List.Elements.{filter-append}
 use Rattle.std.proofs.lemmas.Bool.{cond-false, and_from, and_left, and_right, le-leb, lt-leb}
 use Rattle.machine.specs.Laws.{Segment, Tiles}
@@ -26,7 +26,7 @@ inside-before x (z ∷ zs) a b t le =
     cond-false (covers x z) _ _ (and_left (leb x.from z.from) (leb z.to x.to) (lt-leb x.from z.from (omega (arith, t.0, t.1))))
     ∙ inside-before x zs z.to b t.2 le
 
-all_covered : (x : Segment) (zs : List Segment) (a : ℕ) → Tiles a x.to zs → x.from ≤ a → All (λ z. covers x z ≡ true) zs
+all_covered : (x : Segment) (zs : List Segment) (a : ℕ) → Tiles a x.to zs → x.from ≤ a → AllByRecursion (λ z. covers x z ≡ true) zs
 all_covered x [] a t le = tt
 all_covered x (z ∷ zs) a t le =
     let hi = tiles_le zs z.to x.to t.2 in (
@@ -76,7 +76,7 @@ module _ (g : Segment → List Segment) (most : ℕ) (good : (x : Segment) → x
       let f = ap (λ (z : Segment). z.to) e in
       ap (λ z. inside x (g z) ++ inside x (expand g ys)) (sym e)
       ∙ ap (λ l. inside x (g x) ++ l) (inside-after x (expand g ys) y.to b after (omega arith))
-      ∙ append_nil (inside x (g x))
+      ∙ append-nil (inside x (g x))
       ∙ inside-all x (g x) (subst (λ z. Tiles z.from z.to (g z)) (sym e) here))
       (λ k.
       let w = in_tiles x ys y.to b t.2 k in

@@ -1,8 +1,8 @@
 -- What a reader holds once its end is done, whatever its punctuation set means: the enters and exits of spans that tile the text, with
 -- neighbouring data joined.
 -- Assumes nothing.
-use Rattle.std.proofs.Common.{◌≡◌, ℕ, zero, suc, ◌<◌, ◌≤◌, Bool, true, false, cond, ◌&&◌, ◌⊎◌, List, [], ◌∷◌, length, None, Option, sym, refl, ap, ◌∙◌, subst, ⊎_elim, arith}
-use Rattle.std.specs.List.{AllByRecursion as All}
+use Rattle.std.proofs.Common.{◌≡◌, ℕ, zero, suc, ◌<◌, ◌≤◌, Bool, true, false, cond, ◌&&◌, List, [], ◌∷◌, length, None, Option, sym, refl, ap, ◌∙◌, subst, ⊎_elim, arith}
+use Rattle.std.specs.List.{AllByRecursion}
 use Rattle.std.proofs.lemmas.Bool.{cases_Bool, cond-true, cond-false, true≢false}
 use Rattle.machine.specs.declared.cursors.Until.TheVariants.{End}
 use Rattle.machine.specs.declared.events.Event.{Event}
@@ -49,15 +49,15 @@ joined-tiles [] a b t = t
 joined-tiles (x ∷ xs) a b t = onto_tiles x xs a b t.0 t.1 t.2
 
 -- what two neighbours have, and so the one that they become
-onto_all : (Q : Segment → Type 0) → ((x y : Segment) → Q x → Q y → Q (span x.name x.from y.to)) → (x : Segment) (ys : List Segment) → Q x → All Q ys → All Q (joined_onto x ys)
+onto_all : (Q : Segment → Type 0) → ((x y : Segment) → Q x → Q y → Q (span x.name x.from y.to)) → (x : Segment) (ys : List Segment) → Q x → AllByRecursion Q ys → AllByRecursion Q (joined_onto x ys)
 onto_all Q both x [] h k = (h, tt)
 onto_all Q both x (y ∷ ys) h k =
     ⊎_elim
-    (λ d. subst (All Q) (sym (cond-true (is_data x.name && is_data y.name) _ _ d)) (onto_all Q both (span x.name x.from y.to) ys (both x y h k.0) k.1))
-    (λ d. subst (All Q) (sym (cond-false (is_data x.name && is_data y.name) _ _ d)) (h, onto_all Q both y ys k.0 k.1))
+    (λ d. subst (AllByRecursion Q) (sym (cond-true (is_data x.name && is_data y.name) _ _ d)) (onto_all Q both (span x.name x.from y.to) ys (both x y h k.0) k.1))
+    (λ d. subst (AllByRecursion Q) (sym (cond-false (is_data x.name && is_data y.name) _ _ d)) (h, onto_all Q both y ys k.0 k.1))
     (cases_Bool (is_data x.name && is_data y.name))
 
-joined-all : (Q : Segment → Type 0) → ((x y : Segment) → Q x → Q y → Q (span x.name x.from y.to)) → (xs : List Segment) → All Q xs → All Q (joined-spans xs)
+joined-all : (Q : Segment → Type 0) → ((x y : Segment) → Q x → Q y → Q (span x.name x.from y.to)) → (xs : List Segment) → AllByRecursion Q xs → AllByRecursion Q (joined-spans xs)
 joined-all Q both [] h = tt
 joined-all Q both (x ∷ xs) h = onto_all Q both x xs h.0 h.1
 
@@ -106,15 +106,15 @@ pub record Shaped (note : List ℕ) (es : List Event) : Type 0 where
   pub to : ℕ
   pub tiles : Tiles 0 to spans
   pub inside : to ≤ length note
-  pub leaves : All Leaf spans
-  pub edges : All (AtEdges note) spans
+  pub leaves : AllByRecursion Leaf spans
+  pub edges : AllByRecursion (AtEdges note) spans
   pub are : es ≡ events_of note spans
 
-leaves_of : (note : List ℕ) (xs : List Segment) → Aside note (events_of note xs) → All Leaf xs
+leaves_of : (note : List ℕ) (xs : List Segment) → Aside note (events_of note xs) → AllByRecursion Leaf xs
 leaves_of note [] h = tt
 leaves_of note (x ∷ xs) h = (h.0.no-link, leaves_of note xs h.1.1)
 
-edges_of : (note : List ℕ) (xs : List Segment) → Aside note (events_of note xs) → All (AtEdges note) xs
+edges_of : (note : List ℕ) (xs : List Segment) → Aside note (events_of note xs) → AllByRecursion (AtEdges note) xs
 edges_of note [] h = tt
 edges_of note (x ∷ xs) h = ((h.0.edge, h.1.0.edge), edges_of note xs h.1.1)
 

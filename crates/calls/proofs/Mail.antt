@@ -1,8 +1,8 @@
 -- The addresses that the mail rules name in data lie one after another in it, are not empty, and have kinds of mail.
 -- Data split around them covers what the data covered.
 -- Assumes nothing.
-use Rattle.std.proofs.Common.{◌≡◌, ℕ, zero, suc, ◌+◌, ◌-◌, ◌<◌, ◌≤◌, true, false, cond, eqb, ◌⊎◌, List, [], ◌∷◌, map, length, get_or, Some, None, codes, Option, refl, subst, ⊎_elim, arith}
-use Rattle.std.specs.List.{AllByRecursion as All}
+use Rattle.std.proofs.Common.{◌≡◌, ℕ, zero, suc, ◌+◌, ◌-◌, ◌<◌, ◌≤◌, true, false, cond, eqb, List, [], ◌∷◌, map, length, get_or, Some, None, codes, Option, refl, subst, ⊎_elim, arith}
+use Rattle.std.specs.List.{AllByRecursion}
 use Rattle.std.proofs.ByRecursion.{All-append}
 use Rattle.std.proofs.lemmas.Bool.{cases_lt, cond_both, not_from_false}
 use Rattle.text.specs.declared.spans.Span.{Span}
@@ -56,24 +56,24 @@ started-mail s c k (Some a) = ended-mail (scheme s c a) (address_end s (is_xmpp 
 address_mail : (s : List ℕ) (c k : ℕ) → MailIfAny (address_at s c k)
 address_mail s c k = cond_both (eqb (get_or s k 0) 64) (started s c k (local_start s c k)) None MailIfAny (λ _. started-mail s c k (local_start s c k)) (λ _. tt)
 
-turn_mail : (s : List ℕ) (n c : ℕ) → All (λ x. MailKind x.kind) (in_turn (address_at s) s n c)
+turn_mail : (s : List ℕ) (n c : ℕ) → AllByRecursion (λ x. MailKind x.kind) (in_turn (address_at s) s n c)
 turn_mail s zero c = tt
 turn_mail s (suc n) c = go (next (address_at s) s c) (address_mail s c _) (λ d. turn_mail s n d)
   where
-    go : (o : Option Span) → MailIfAny o → ((d : ℕ) → All (λ x. MailKind x.kind) (in_turn (address_at s) s n d)) → All (λ x. MailKind x.kind) (then_from_its_end (in_turn (address_at s) s n) o)
+    go : (o : Option Span) → MailIfAny o → ((d : ℕ) → AllByRecursion (λ x. MailKind x.kind) (in_turn (address_at s) s n d)) → AllByRecursion (λ x. MailKind x.kind) (then_from_its_end (in_turn (address_at s) s n) o)
     go None h rec = tt
     go (Some x) h rec = (h, rec x.to)
 
-named-mail : (d : ℕ) (xs : List Span) → All (λ x. MailKind x.kind) xs → All (λ y. is_mail_address y.name ≡ true) (map as_named (map (moved d) xs))
+named-mail : (d : ℕ) (xs : List Span) → AllByRecursion (λ x. MailKind x.kind) xs → AllByRecursion (λ y. is_mail_address y.name ≡ true) (map as_named (map (moved d) xs))
 named-mail d [] h = tt
 named-mail d (x ∷ xs) h = (not_from_false (is_web x.kind) h.0, named-mail d xs h.1)
 
-pub mail-is-mail : (note : List ℕ) (x : Segment) → All (λ y. is_mail_address y.name ≡ true) (mail_in note x)
+pub mail-is-mail : (note : List ℕ) (x : Segment) → AllByRecursion (λ y. is_mail_address y.name ≡ true) (mail_in note x)
 mail-is-mail note x = let s = part x.from x.to note in named-mail x.from (addresses s) (turn_mail s (length s) 0)
 
 -- ---- places
 
-spaced_named : (a b : ℕ) (xs : List Span) → a ≤ b → InTextOrder a xs → All (λ x. x.to ≤ b) xs → Spaced a b (map as_named xs)
+spaced_named : (a b : ℕ) (xs : List Span) → a ≤ b → InTextOrder a xs → AllByRecursion (λ x. x.to ≤ b) xs → Spaced a b (map as_named xs)
 spaced_named a b [] le o h = le
 spaced_named a b (x ∷ xs) le o h = (o.0.0, o.0.1, spaced_named x.to b xs h.0 o.1 h.1)
 
@@ -104,7 +104,7 @@ splits-tiles note (x ∷ xs) a b le t =
 
 -- ---- and its edges
 
-tiles_edges : (note : List ℕ) (xs : List Segment) (a b : ℕ) → Tiles a b xs → ((j : ℕ) → a ≤ j → j ≤ b → Edge note j) → All (AtEdges note) xs
+tiles_edges : (note : List ℕ) (xs : List Segment) (a b : ℕ) → Tiles a b xs → ((j : ℕ) → a ≤ j → j ≤ b → Edge note j) → AllByRecursion (AtEdges note) xs
 tiles_edges note [] a b t h = tt
 tiles_edges note (x ∷ xs) a b t h =
     let hi = tiles_le xs x.to b t.2 in
@@ -117,15 +117,15 @@ plain_edges note a b e p j lo hi =
     (λ ge. let same : a ≡ j = omega arith in subst (Edge note) same e)
     (cases_lt a j)
 
-split_edges : (note : List ℕ) (x : Segment) → x.from < x.to → x.to ≤ length note → Standing note x → All (AtEdges note) (split note x)
+split_edges : (note : List ℕ) (x : Segment) → x.from < x.to → x.to ≤ length note → Standing note x → AllByRecursion (AtEdges note) (split note x)
 split_edges note x lt fits h =
-    cond_both (is_data x.name) (filled x.from (mail_in note x) x.to) (x ∷ []) (All (AtEdges note))
+    cond_both (is_data x.name) (filled x.from (mail_in note x) x.to) (x ∷ []) (AllByRecursion (AtEdges note))
     (λ d.
     tiles_edges note (filled x.from (mail_in note x) x.to) x.from x.to (tiles-filled (mail_in note x) x.from x.to (mail_spaced note x (omega arith) fits))
     (plain_edges note x.from x.to h.0.0 (h.1 d)))
     (λ _. (h.0, tt))
 
-pub splits_edges : (note : List ℕ) (xs : List Segment) (a b : ℕ) → b ≤ length note → Tiles a b xs → All (Standing note) xs → All (AtEdges note) (splits note xs)
+pub splits_edges : (note : List ℕ) (xs : List Segment) (a b : ℕ) → b ≤ length note → Tiles a b xs → AllByRecursion (Standing note) xs → AllByRecursion (AtEdges note) (splits note xs)
 splits_edges note [] a b le t h = tt
 splits_edges note (x ∷ xs) a b le t h =
     let hi = tiles_le xs x.to b t.2 in

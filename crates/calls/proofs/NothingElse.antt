@@ -1,7 +1,7 @@
 -- No other event lists than those of the definitions have what is claimed.
 -- Assumes nothing.
 use Rattle.std.proofs.Common.{◌≡◌, ℕ, zero, suc, ◌<◌, ◌≤◌, Bool, true, false, cond, not, ◌&&◌, eqb, ltb, leb, ◌⊎◌, List, [], ◌∷◌, ◌++◌, length, filter, sym, refl, ap, ◌∙◌, inl, inr, ⊎_elim, arith}
-use Rattle.std.specs.List.{AllByRecursion as All}
+use Rattle.std.specs.List.{AllByRecursion}
 use Rattle.std.proofs.ByRecursion.{All-weaker, all_kept_by, kept_by_passes}
 use Rattle.std.proofs.lemmas.Bool.{cases_Bool, cases_lt, cond-true, cond-false, cond_both, and_parts, and_left, and_right, leb-true, ltb-true, lt-ltb, le-ltb, lt-leb, eq-eqb, not-true, not_from_false, not_from_true, true≢false}
 use Rattle.rules.specs.Web.{is_web}
@@ -24,29 +24,29 @@ use Rattle.calls.proofs.EqualLists.{Fits, no_cons, heads, kept-head, tails, same
 
 -- ---- spans of a lawful list are not empty and end in the note
 
-full_spans : (es still : List Event) → nests still es ≡ true → All Full (spans_from still es)
+full_spans : (es still : List Event) → nests still es ≡ true → AllByRecursion Full (spans_from still es)
 full_spans [] still h = tt
 full_spans (e ∷ es) still h = go e.kind still h (λ still' k. full_spans es still' k)
   where
-    go : (d : EventKind) (still : List Event) → (closes d still e && nests (open_then d still e) es) ≡ true → ((still' : List Event) → nests still' es ≡ true → All Full (spans_from still' es)) → All Full (closed_by d still e ++ spans_from (open_then d still e) es)
+    go : (d : EventKind) (still : List Event) → (closes d still e && nests (open_then d still e) es) ≡ true → ((still' : List Event) → nests still' es ≡ true → AllByRecursion Full (spans_from still' es)) → AllByRecursion Full (closed_by d still e ++ spans_from (open_then d still e) es)
     go Enter still h rec = rec (e ∷ still) h
     go Exit [] h rec = absurd (true≢false (sym h))
     go Exit (o ∷ still) h rec =
         let a = and_parts (same_name o.name e.name && ltb o.point.index e.point.index) (nests still es) h in
         (ltb-true o.point.index e.point.index (and_parts (same_name o.name e.name) (ltb o.point.index e.point.index) a.0).1, rec still a.1)
 
-ends-spans : (note : List ℕ) (es still : List Event) → All (Placed note) es → All (λ x. x.to ≤ length note) (spans_from still es)
+ends-spans : (note : List ℕ) (es still : List Event) → AllByRecursion (Placed note) es → AllByRecursion (λ x. x.to ≤ length note) (spans_from still es)
 ends-spans note [] still h = tt
 ends-spans note (e ∷ es) still h = go e.kind still (λ still'. ends-spans note es still' h.1)
   where
-    go : (d : EventKind) (still : List Event) → ((still' : List Event) → All (λ x. x.to ≤ length note) (spans_from still' es)) → All (λ x. x.to ≤ length note) (closed_by d still e ++ spans_from (open_then d still e) es)
+    go : (d : EventKind) (still : List Event) → ((still' : List Event) → AllByRecursion (λ x. x.to ≤ length note) (spans_from still' es)) → AllByRecursion (λ x. x.to ≤ length note) (closed_by d still e ++ spans_from (open_then d still e) es)
     go Enter still rec = rec (e ∷ still)
     go Exit [] rec = rec []
     go Exit (o ∷ still) rec = (h.0.inside, rec still)
 
 -- ---- in order, each byte once: tiles
 
-not_held : (xs : List Segment) (a i : ℕ) → in_order a xs ≡ true → All Full xs → i < a → holding xs i ≡ 0
+not_held : (xs : List Segment) (a i : ℕ) → in_order a xs ≡ true → AllByRecursion Full xs → i < a → holding xs i ≡ 0
 not_held [] a i o f lt = refl
 not_held (x ∷ xs) a i o f lt =
     let w = and_parts (leb a x.from) (in_order x.to xs) o in
@@ -54,7 +54,7 @@ not_held (x ∷ xs) a i o f lt =
     cond-false (leb x.from i && ltb i x.to) _ _ (and_left (leb x.from i) (ltb i x.to) (lt-leb x.from i (omega arith)))
     ∙ not_held xs x.to i w.1 f.1 (omega (arith, f.0))
 
-tiles-from : (xs : List Segment) (a b : ℕ) → a ≤ b → in_order a xs ≡ true → All Full xs → All (λ x. x.to ≤ b) xs → ((i : ℕ) → a ≤ i → i < b → holding xs i ≡ 1) → Tiles a b xs
+tiles-from : (xs : List Segment) (a b : ℕ) → a ≤ b → in_order a xs ≡ true → AllByRecursion Full xs → AllByRecursion (λ x. x.to ≤ b) xs → ((i : ℕ) → a ≤ i → i < b → holding xs i ≡ 1) → Tiles a b xs
 tiles-from [] a b le o f t h = ⊎_elim (λ lt. absurd (omega (arith, h a (omega arith) lt))) (λ ge. omega arith) (cases_lt a b)
 tiles-from (x ∷ xs) a b le o f t h =
     let w = and_parts (leb a x.from) (in_order x.to xs) o in
@@ -149,7 +149,7 @@ ordered_later : (a b : ℕ) (xs : List Segment) → a ≤ b → Ordered b xs →
 ordered_later a b [] le h = tt
 ordered_later a b (x ∷ xs) le h = (omega (arith, h.0), h.1, h.2)
 
-ordered-all : (a b : ℕ) (xs : List Segment) → a ≤ b → Ordered b xs → All (λ x. a ≤ x.from) xs
+ordered-all : (a b : ℕ) (xs : List Segment) → a ≤ b → Ordered b xs → AllByRecursion (λ x. a ≤ x.from) xs
 ordered-all a b [] le h = tt
 ordered-all a b (x ∷ xs) le h = (omega (arith, h.0), ordered-all a x.to xs (omega (arith, h.0, h.1)) h.2)
 
@@ -185,7 +185,7 @@ good_sort x g = go x.name refl g.0 g.1
     go (name.Address kind) e a b =
         cond_both (is_web kind) 0 2 (λ j. sort j x ≡ true) (λ h. ap is_web_address e ∙ h) (λ h. ap is_mail_address e ∙ not_from_false (is_web kind) h)
 
-merged : (xs ys : List Segment) (a b : ℕ) → Ordered a xs → Ordered b ys → All Good xs → All Good ys → ((j : ℕ) → filter (sort j) xs ≡ filter (sort j) ys) → xs ≡ ys
+merged : (xs ys : List Segment) (a b : ℕ) → Ordered a xs → Ordered b ys → AllByRecursion Good xs → AllByRecursion Good ys → ((j : ℕ) → filter (sort j) xs ≡ filter (sort j) ys) → xs ≡ ys
 merged [] [] a b o u g h e = refl
 merged [] (y ∷ ys) a b o u g h e = absurd (no_cons y (filter (sort (sort_of y.name)) ys) (sym (cond-true (sort (sort_of y.name) y) _ _ (good_sort y h.0)) ∙ sym (e (sort_of y.name))))
 merged (x ∷ xs) [] a b o u g h e = absurd (no_cons x (filter (sort (sort_of x.name)) xs) (sym (cond-true (sort (sort_of x.name) x) _ _ (good_sort x g.0)) ∙ e (sort_of x.name)))
@@ -203,12 +203,12 @@ merged (x ∷ xs) (y ∷ ys) a b o u g h e = go (cases_Bool (sort j y)) (cases_B
     by_y : filter (sort (sort_of y.name)) (y ∷ ys) ≡ y ∷ filter (sort (sort_of y.name)) ys
     by_y = cond-true (sort (sort_of y.name) y) (y ∷ filter (sort (sort_of y.name)) ys) (filter (sort (sort_of y.name)) ys) (good_sort y h.0)
 
-    rest : x ≡ y → ((c d : ℕ) → Ordered c xs → Ordered d ys → All Good xs → All Good ys → ((j : ℕ) → filter (sort j) xs ≡ filter (sort j) ys) → xs ≡ ys) → x ∷ xs ≡ y ∷ ys
+    rest : x ≡ y → ((c d : ℕ) → Ordered c xs → Ordered d ys → AllByRecursion Good xs → AllByRecursion Good ys → ((j : ℕ) → filter (sort j) xs ≡ filter (sort j) ys) → xs ≡ ys) → x ∷ xs ≡ y ∷ ys
     rest s rec =
         let t : xs ≡ ys = rec x.to y.to o.2 u.2 g.1 h.1 (λ i. ⊎_elim (λ w. w.2) (λ w. w.1) (tails (sort i) x y xs ys (ap (sort i) s) (e i))) in
         λ i. s i ∷ t i
 
-    go : ((sort (sort_of x.name) y ≡ true) ⊎ (sort (sort_of x.name) y ≡ false)) → ((sort (sort_of y.name) x ≡ true) ⊎ (sort (sort_of y.name) x ≡ false)) → ((c d : ℕ) → Ordered c xs → Ordered d ys → All Good xs → All Good ys → ((j : ℕ) → filter (sort j) xs ≡ filter (sort j) ys) → xs ≡ ys) → x ∷ xs ≡ y ∷ ys
+    go : ((sort (sort_of x.name) y ≡ true) ⊎ (sort (sort_of x.name) y ≡ false)) → ((sort (sort_of y.name) x ≡ true) ⊎ (sort (sort_of y.name) x ≡ false)) → ((c d : ℕ) → Ordered c xs → Ordered d ys → AllByRecursion Good xs → AllByRecursion Good ys → ((j : ℕ) → filter (sort j) xs ≡ filter (sort j) ys) → xs ≡ ys) → x ∷ xs ≡ y ∷ ys
     go (inl p) q rec =
         rest (heads x y (filter (sort (sort_of x.name)) xs) (filter (sort (sort_of x.name)) ys) (sym by_x ∙ e (sort_of x.name) ∙ cond-true (sort (sort_of x.name) y) (y ∷ filter (sort (sort_of x.name)) ys) (filter (sort (sort_of x.name)) ys) p)).0 rec
     go (inr p) (inl q) rec =
@@ -254,10 +254,10 @@ never : (xs : List Segment) (j : ℕ) → filter (sort (suc (suc (suc j)))) xs �
 never [] j = refl
 never (x ∷ xs) j = never xs j
 
-good_others : (es : List Event) → All Good (filter other (leaves es))
+good_others : (es : List Event) → AllByRecursion Good (filter other (leaves es))
 good_others es = both (filter other (leaves es)) (kept_by_passes other (leaves es)) (all_kept_by other (λ x. unlinked x ≡ true) (leaves es) (kept_by_passes unlinked (spans es)))
   where
-    both : (xs : List Segment) → All (λ x. other x ≡ true) xs → All (λ x. unlinked x ≡ true) xs → All Good xs
+    both : (xs : List Segment) → AllByRecursion (λ x. other x ≡ true) xs → AllByRecursion (λ x. unlinked x ≡ true) xs → AllByRecursion Good xs
     both [] a b = tt
     both (x ∷ xs) a b = ((not-true (is_data x.name) a.0, not-true (is_link x.name) b.0), both xs a.1 b.1)
 
@@ -293,7 +293,7 @@ exactly_segments member note es l r mail links =
     determined member note es (ended_events member note) l (ended-lawful member note) r (ended-read member note)
     (mail ∙ sym (none_of is_mail_address (segment-no-mail member note))) (links ∙ sym (none_of is_link (segment-leaves member note)))
   where
-    none_of : (p : Name → Bool) → All (λ x. p x.name ≡ false) (ended_spans member note) → with_name p (spans (ended_events member note)) ≡ []
+    none_of : (p : Name → Bool) → AllByRecursion (λ x. p x.name ≡ false) (ended_spans member note) → with_name p (spans (ended_events member note)) ≡ []
     none_of p h = ap (with_name p) (spans_of note (ended_spans member note)) ∙ kept-none (λ x. p x.name) (ended_spans member note) h
 
 -- of a resolved one

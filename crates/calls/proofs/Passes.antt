@@ -1,7 +1,7 @@
 -- The two passes resolve.
 -- Assumes nothing.
-use Rattle.std.proofs.Common.{◌≡◌, ℕ, Bool, true, false, cond, not, List, [], ◌∷◌, ◌++◌, sym, refl, ap, ◌∙◌, subst, append_nil}
-use Rattle.std.specs.List.{AllByRecursion as All}
+use Rattle.std.proofs.Common.{◌≡◌, ℕ, Bool, true, false, cond, not, List, [], ◌∷◌, ◌++◌, sym, refl, ap, ◌∙◌, subst, append-nil}
+use Rattle.std.specs.List.{AllByRecursion}
 use Rattle.std.proofs.lemmas.List.{append_assoc}
 use Rattle.std.proofs.lemmas.Bool.{cond-false}
 use Rattle.machine.specs.declared.events.Event.{Event}
@@ -22,14 +22,14 @@ module _ (note : List ℕ) where
   events-append (x ∷ xs) ys = ap (λ es. event_at note Enter x.name x.from ∷ event_at note Exit x.name x.to ∷ es) (events-append xs ys)
 
   -- inside a Link nothing is cut
-  cut_inside : (xs : List Segment) (es : List Event) → All Leaf xs → mail_cut note true (events_of note xs ++ es) ≡ events_of note xs ++ mail_cut note true es
+  cut_inside : (xs : List Segment) (es : List Event) → AllByRecursion Leaf xs → mail_cut note true (events_of note xs ++ es) ≡ events_of note xs ++ mail_cut note true es
   cut_inside [] es h = refl
   cut_inside (x ∷ xs) es h =
       cond-false (is_link x.name) _ _ h.0
       ∙ ap (λ t. event_at note Enter x.name x.from ∷ event_at note Exit x.name x.to ∷ t) (cut_inside xs es h.1)
 
   -- outside, each span is split
-  cut_outside : (xs : List Segment) (es : List Event) → All Leaf xs → mail_cut note false (events_of note xs ++ es) ≡ events_of note (splits note xs) ++ mail_cut note false es
+  cut_outside : (xs : List Segment) (es : List Event) → AllByRecursion Leaf xs → mail_cut note false (events_of note xs ++ es) ≡ events_of note (splits note xs) ++ mail_cut note false es
   cut_outside [] es h = refl
   cut_outside (x ∷ xs) es h =
       cond-false (is_link x.name) _ _ h.0
@@ -52,7 +52,7 @@ module _ (note : List ℕ) where
   cut_exit b i [] = refl
   cut_exit b i (e ∷ es) = refl
 
-  cut-run : (b : Bool) (i j : ℕ) (ys : List Segment) (es : List Event) → All Leaf ys →
+  cut-run : (b : Bool) (i j : ℕ) (ys : List Segment) (es : List Event) → AllByRecursion Leaf ys →
       mail_cut note b (event_at note Enter name.Link i ∷ (events_of note ys ++ (event_at note Exit name.Link j ∷ es)))
       ≡ event_at note Enter name.Link i ∷ (events_of note ys ++ (event_at note Exit name.Link j ∷ mail_cut note false es))
   cut-run b i j [] es h = ap (λ t. event_at note Enter name.Link i ∷ t) (cut_exit true j es)
@@ -60,9 +60,9 @@ module _ (note : List ℕ) where
       ap (λ t. event_at note Enter name.Link i ∷ t)
       (cut_inside (y ∷ ys) (event_at note Exit name.Link j ∷ es) h ∙ ap (λ t. events_of note (y ∷ ys) ++ t) (cut_exit true j es))
 
-  cut_groups : (g : Groups) → All Leaf (flat g) → mail_cut note false (group_linked note g) ≡ group_events note g
+  cut_groups : (g : Groups) → AllByRecursion Leaf (flat g) → mail_cut note false (group_linked note g) ≡ group_events note g
   cut_groups (rest xs) h =
-      ap (mail_cut note false) (sym (append_nil (events_of note xs))) ∙ cut_outside xs [] h ∙ append_nil (events_of note (splits note xs))
+      ap (mail_cut note false) (sym (append-nil (events_of note xs))) ∙ cut_outside xs [] h ∙ append-nil (events_of note (splits note xs))
   cut_groups (group xs ys g) h =
       let a = all_split Leaf xs (ys ++ flat g) h in
       let b = all_split Leaf ys (flat g) a.1 in
@@ -75,4 +75,4 @@ module _ (note : List ℕ) where
 pub two_passes_resolve : TwoPassesResolve
 two_passes_resolve note xs ls h ok =
     let by : Grouped note xs 0 ls = grouped note xs ls 0 ok in
-    ap (mail_cut note false) by.linked_are ∙ cut_groups note by.groups (subst (All Leaf) (sym by.flat_are) h) ∙ sym by.events_are
+    ap (mail_cut note false) by.linked_are ∙ cut_groups note by.groups (subst (AllByRecursion Leaf) (sym by.flat_are) h) ∙ sym by.events_are

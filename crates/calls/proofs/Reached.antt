@@ -1,9 +1,8 @@
 -- A machine that was run from the beginning of a note, in any parts: its events are lawful, and when its end is done they are those
 -- of the segments.
 -- Assumes nothing.
-use Rattle.std.proofs.Common.{◌≡◌, ℕ, Bool, true, ◌⊎◌, List, [], ◌∷◌, ◌++◌, sym, refl, ap, ◌∙◌, subst, ⊎_elim, append_nil}
-use Rattle.std.specs.List.{AllByRecursion as All}
-use Rattle.rules.specs.Segments.{segments}
+use Rattle.std.proofs.Common.{◌≡◌, ℕ, Bool, true, List, [], ◌∷◌, ◌++◌, sym, refl, ap, ◌∙◌, subst, ⊎_elim, append-nil}
+use Rattle.std.specs.List.{AllByRecursion}
 use Rattle.machine.specs.declared.cursors.Until.{Until}
 use Rattle.machine.specs.declared.cursors.Until.TheVariants.{End}
 use Rattle.machine.specs.declared.events.Event.{Event}
@@ -25,7 +24,7 @@ use Rattle.calls.proofs.Aside.{Aside, run_aside}
 
 -- ---- tiled events are lawful
 
-edges_of : (note : List ℕ) (xs : List Segment) (es : List Event) → Aside note (events_of note xs ++ es) → All (AtEdges note) xs × Aside note es
+edges_of : (note : List ℕ) (xs : List Segment) (es : List Event) → Aside note (events_of note xs ++ es) → AllByRecursion (AtEdges note) xs × Aside note es
 edges_of note [] es h = (tt, h)
 edges_of note (x ∷ xs) es h = let w = edges_of note xs es h.1.1 in (((h.0.edge, h.1.0.edge), w.0), w.1)
 
@@ -33,7 +32,7 @@ pub tiled-lawful : (note : List ℕ) (es : List Event) (ns : List Name) → Tile
 tiled-lawful note es ns t h =
     ⊎_elim
     (λ a.
-    let is : es ≡ events_of note t.segments ++ [] = a.0 ∙ sym (append_nil (events_of note t.segments)) in
+    let is : es ≡ events_of note t.segments ++ [] = a.0 ∙ sym (append-nil (events_of note t.segments)) in
     let k = edges_of note t.segments [] (subst (Aside note) is h) in
     subst (LawfulEvents note) (sym is)
     (record {

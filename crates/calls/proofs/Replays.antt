@@ -1,6 +1,6 @@
 -- A list of calls taken one by one, as a loop over it makes them; and what one sees who looks at the reader at each moment.
 -- Assumes nothing.
-use Rattle.std.proofs.Common.{◌≡◌, ℕ, zero, suc, ◌+◌, ◌<◌, ◌≤◌, Bool, List, [], ◌∷◌, ◌++◌, length, get_or, take, sym, refl, ap, ◌∙◌, subst, append_assoc, append_nil, arith}
+use Rattle.std.proofs.Common.{◌≡◌, ℕ, zero, suc, ◌+◌, ◌<◌, ◌≤◌, Bool, List, [], ◌∷◌, ◌++◌, length, get_or, take, sym, refl, ap, ◌∙◌, subst, append_assoc, append-nil, arith}
 use lib.Seq.{take-length}
 use Rattle.std.proofs.lemmas.List.{take_more}
 use Rattle.findings.specs.Findings.{FindsTheLinks}
@@ -81,7 +81,7 @@ module _ (member : ℕ → Bool) where
 
   pub seen_none : (first : Model) (calls : List Call) (old : List Answer) (before : List Model) → Seen first calls 0 old old before before first
   unfolding later
-  seen_none first calls old before = record { reader = refl; answered = sym (append_nil old); looked = sym (append_nil before) }
+  seen_none first calls old before = record { reader = refl; answered = sym (append-nil old); looked = sym (append-nil before) }
 
   pub seen_more : (meant : ℕ → Bool) (first : Model) (calls : List Call) (k : ℕ) (old got got' : List Answer) (before seen seen' : List Model) (m m' : Model) (d : Call) (a : Answer) → k < length calls → Seen first calls k old got before seen m → meant ≡ member → ◌≡◌ {A = Model × Answer} (m', a) (step meant m (get_or calls k d)) → got' ≡ got ++ a ∷ [] → seen' ≡ seen ++ m' ∷ [] → Seen first calls (k + 1) old got' before seen' m'
   seen_more meant first calls k old got got' before seen seen' m m' d a lt so same e pushed looked =

@@ -1,7 +1,7 @@
 -- The resolved list is lawful, still read, and resolved.
 -- Assumes nothing.
-use Rattle.std.proofs.Common.{◌≡◌, ℕ, ◌-◌, Bool, true, false, List, [], length, filter, sym, ap, ◌∙◌, subst, arith}
-use Rattle.std.specs.List.{AllByRecursion as All}
+use Rattle.std.proofs.Common.{◌≡◌, ℕ, Bool, true, false, List, [], length, filter, sym, ap, ◌∙◌, subst, arith}
+use Rattle.std.specs.List.{AllByRecursion}
 use Rattle.machine.specs.Joins.{is_data}
 use Rattle.machine.specs.Laws.{Segment, Tiles}
 use Rattle.calls.specs.declared.links.MarkedRun.{MarkedRun}
@@ -31,11 +31,11 @@ module _ (member : ℕ → Bool) (note : List ℕ) (ls : List MarkedRun) (ok : m
   tiles_gs : Tiles 0 (length note) (flat gs)
   tiles_gs = subst (λ l. Tiles 0 (length note) l) (sym flat_gs) (segment-tiles member note)
 
-  leaf_gs : All Leaf (flat gs)
-  leaf_gs = subst (All Leaf) (sym flat_gs) (segment-leaves member note)
+  leaf_gs : AllByRecursion Leaf (flat gs)
+  leaf_gs = subst (AllByRecursion Leaf) (sym flat_gs) (segment-leaves member note)
 
-  standing_gs : All (Standing note) (flat gs)
-  standing_gs = subst (All (Standing note)) (sym flat_gs) (segment_standing member note)
+  standing_gs : AllByRecursion (Standing note) (flat gs)
+  standing_gs = subst (AllByRecursion (Standing note)) (sym flat_gs) (segment_standing member note)
 
   spans_gs : spans (resolved_events member note ls) ≡ group_spans note gs
   spans_gs = ap spans events_gs ∙ spans_group note gs
@@ -73,7 +73,7 @@ module _ (member : ℕ → Bool) (note : List ℕ) (ls : List MarkedRun) (ok : m
   pub resolved-resolved : FullyResolved member note ls (resolved_events member note ls)
   resolved-resolved = record {
     around = ap (with_name is_link) spans_gs ∙ links_group note gs leaf_gs ∙ sym by.links_are;
-    mail = ap (with_name is_mail_address) spans_gs ∙ mail_group note gs 0 (length note) (omega arith) tiles_gs by.none_empty (subst (All NotMail) (sym flat_gs) (segment-no-mail member note)) ∙ (λ i. mail_outside note (sym by.links_are i) (with_name is_data (flat_gs i)));
+    mail = ap (with_name is_mail_address) spans_gs ∙ mail_group note gs 0 (length note) (omega arith) tiles_gs by.none_empty (subst (AllByRecursion NotMail) (sym flat_gs) (segment-no-mail member note)) ∙ (λ i. mail_outside note (sym by.links_are i) (with_name is_data (flat_gs i)));
     split_outside = λ x h e.
         let w = in_kept (λ y. is_data y.name) x (ended_spans member note) h in
         split_by note gs x (leaves (resolved_events member note ls)) (marked_spans member note ls) leaves_gs by.links_are (stands_gs x w.0) w.1 e;

@@ -1,7 +1,7 @@
 -- Spans that cover a stretch of bytes without a gap, and what their events say.
 -- Assumes nothing.
-use Rattle.std.proofs.Common.{◌≡◌, ℕ, suc, ◌+◌, ◌-◌, ◌<◌, ◌≤◌, Bool, true, false, cond, not, ◌&&◌, ltb, leb, ◌⊎◌, List, [], ◌∷◌, ◌++◌, length, filter, sym, refl, ap, ◌∙◌, subst, ⊎_elim, append_nil, arith}
-use Rattle.std.specs.List.{AllByRecursion as All}
+use Rattle.std.proofs.Common.{◌≡◌, ℕ, suc, ◌<◌, ◌≤◌, Bool, true, false, cond, not, ◌&&◌, ltb, leb, List, [], ◌∷◌, ◌++◌, length, filter, sym, refl, ap, ◌∙◌, subst, ⊎_elim, append-nil, arith}
+use Rattle.std.specs.List.{AllByRecursion}
 use Rattle.std.proofs.lemmas.List.Elements.{filter-append}
 use Rattle.std.proofs.ByRecursion.{All-append, All-weaker}
 use Rattle.std.proofs.lemmas.Bool.{cond-true, cond-false, cases_lt, and_from, and_left, and_right, lt-ltb, le-ltb, le-leb, lt-leb, eq-eqb, not_from_false}
@@ -74,18 +74,18 @@ linking x = is_link x.name
 abbrev pub unlinked : Segment → Bool
 unlinked x = not (is_link x.name)
 
-pub kept-all : (p : Segment → Bool) (xs : List Segment) → All (λ x. p x ≡ true) xs → filter p xs ≡ xs
+pub kept-all : (p : Segment → Bool) (xs : List Segment) → AllByRecursion (λ x. p x ≡ true) xs → filter p xs ≡ xs
 kept-all p [] h = refl
 kept-all p (x ∷ xs) h = cond-true (p x) _ _ h.0 ∙ ap (λ l. x ∷ l) (kept-all p xs h.1)
 
-pub kept-none : (p : Segment → Bool) (xs : List Segment) → All (λ x. p x ≡ false) xs → filter p xs ≡ []
+pub kept-none : (p : Segment → Bool) (xs : List Segment) → AllByRecursion (λ x. p x ≡ false) xs → filter p xs ≡ []
 kept-none p [] h = refl
 kept-none p (x ∷ xs) h = cond-false (p x) _ _ h.0 ∙ kept-none p xs h.1
 
-pub all-between : (P : Segment → Type 0) (a b : ℕ) → P (span name.Data a b) → All P (data_between a b)
-all-between P a b h = elim (ltb a b) as (λ v. All P (cond v (span name.Data a b ∷ []) [])) [ true ↦ (h, tt) | false ↦ tt ]
+pub all-between : (P : Segment → Type 0) (a b : ℕ) → P (span name.Data a b) → AllByRecursion P (data_between a b)
+all-between P a b h = elim (ltb a b) as (λ v. AllByRecursion P (cond v (span name.Data a b ∷ []) [])) [ true ↦ (h, tt) | false ↦ tt ]
 
-pub all-filled : (P : Segment → Type 0) → ((a b : ℕ) → P (span name.Data a b)) → (xs : List Segment) (a b : ℕ) → All P xs → All P (filled a xs b)
+pub all-filled : (P : Segment → Type 0) → ((a b : ℕ) → P (span name.Data a b)) → (xs : List Segment) (a b : ℕ) → AllByRecursion P xs → AllByRecursion P (filled a xs b)
 all-filled P d [] a b h = all-between P a b (d a b)
 all-filled P d (x ∷ xs) a b h = All-append P (data_between a x.from) (x ∷ filled x.to xs b) (all-between P a x.from (d a x.from)) (h.0, all-filled P d xs x.to b h.1)
 
@@ -107,7 +107,7 @@ spans-events note (x ∷ xs) still es = ap (λ l. x ∷ l) (spans-events note xs
 abbrev pub Full : Segment → Type 0
 Full x = x.from < x.to
 
-pub nests-events : (note : List ℕ) (xs : List Segment) (still es : List Event) → All Full xs → nests still es ≡ true → nests still (events_of note xs ++ es) ≡ true
+pub nests-events : (note : List ℕ) (xs : List Segment) (still es : List Event) → AllByRecursion Full xs → nests still es ≡ true → nests still (events_of note xs ++ es) ≡ true
 nests-events note [] still es f h = h
 nests-events note (x ∷ xs) still es f h =
     and_from (same_name x.name x.name && ltb x.from x.to) (nests still (events_of note xs ++ es))
@@ -130,7 +130,7 @@ leaf_stands : (still : List Event) (note : List ℕ) (x : Segment) → Host stil
 leaf_stands [] note x k h = refl
 leaf_stands (o ∷ still) note x k h = and_from (is_link o.name) (not (is_link x.name)) k (not_from_false (is_link x.name) h)
 
-pub only_links_events : (note : List ℕ) (xs : List Segment) (still es : List Event) → Host still → All Leaf xs → only_links_hold still es ≡ true → only_links_hold still (events_of note xs ++ es) ≡ true
+pub only_links_events : (note : List ℕ) (xs : List Segment) (still es : List Event) → Host still → AllByRecursion Leaf xs → only_links_hold still es ≡ true → only_links_hold still (events_of note xs ++ es) ≡ true
 only_links_events note [] still es k f h = h
 only_links_events note (x ∷ xs) still es k f h =
     and_from (stands_right (event_at note Enter x.name x.from).kind still (event_at note Enter x.name x.from)) (only_links_hold still (events_of note xs ++ es)) (leaf_stands still note x k f.0) (only_links_events note xs still es k f.1 h)
@@ -142,13 +142,13 @@ AtEdges note x = Edge note x.from × Edge note x.to
 pub placed_at : (note : List ℕ) (kind : EventKind) (n : Name) (i : ℕ) → i ≤ length note → Edge note i → Placed note (event_at note kind n i)
 placed_at note kind n i le e = record { inside = le; at_its_place = refl; not_between = e }
 
-pub placed-events : (note : List ℕ) (xs : List Segment) (a b : ℕ) (es : List Event) → Tiles a b xs → b ≤ length note → All (AtEdges note) xs → All (Placed note) es → All (Placed note) (events_of note xs ++ es)
+pub placed-events : (note : List ℕ) (xs : List Segment) (a b : ℕ) (es : List Event) → Tiles a b xs → b ≤ length note → AllByRecursion (AtEdges note) xs → AllByRecursion (Placed note) es → AllByRecursion (Placed note) (events_of note xs ++ es)
 placed-events note [] a b es t le k h = h
 placed-events note (x ∷ xs) a b es t le k h =
     let hi = tiles_le xs x.to b t.2 in
     (placed_at note Enter x.name x.from (omega (arith, t.0, t.1)) k.0.0, (placed_at note Exit x.name x.to (omega arith) k.0.1, placed-events note xs x.to b es t.2 le k.1 h))
 
-pub tiles_full : (xs : List Segment) (a b : ℕ) → Tiles a b xs → All Full xs
+pub tiles_full : (xs : List Segment) (a b : ℕ) → Tiles a b xs → AllByRecursion Full xs
 tiles_full [] a b t = tt
 tiles_full (x ∷ xs) a b t = (omega (arith, t.0, t.1), tiles_full xs x.to b t.2)
 
@@ -161,9 +161,9 @@ forward-events note (x ∷ xs) a b es t h =
 -- ---- spans of events, and the events of spans
 
 pub spans_of : (note : List ℕ) (xs : List Segment) → spans (events_of note xs) ≡ xs
-spans_of note xs = ap spans (sym (append_nil (events_of note xs))) ∙ spans-events note xs [] [] ∙ append_nil xs
+spans_of note xs = ap spans (sym (append-nil (events_of note xs))) ∙ spans-events note xs [] [] ∙ append-nil xs
 
-pub leaves_of : (note : List ℕ) (xs : List Segment) → All Leaf xs → leaves (events_of note xs) ≡ xs
+pub leaves_of : (note : List ℕ) (xs : List Segment) → AllByRecursion Leaf xs → leaves (events_of note xs) ≡ xs
 leaves_of note xs h =
     ap (with_name (λ n. not (is_link n))) (spans_of note xs)
     ∙ kept-all (λ x. not (is_link x.name)) xs (All-weaker Leaf (λ x. not (is_link x.name) ≡ true) (λ x e. not_from_false (is_link x.name) e) xs h)

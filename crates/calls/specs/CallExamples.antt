@@ -2,7 +2,7 @@
 -- look right and are not what is claimed.
 -- Assumes nothing.
 use Rattle.std.specs.Prelude.{◌≡◌, ℕ, zero, suc, ◌+◌, true, false, List, [], ◌∷◌, ◌++◌, replicate, Ok, Err, codes}
-use Rattle.std.specs.List.{AllByRecursion as All}
+use Rattle.std.specs.List.{AllByRecursion}
 use Rattle.text.specs.declared.refusals.Fault.{Fault}
 use Rattle.text.specs.declared.refusals.Fault.TheVariants as fault
 use Rattle.text.specs.declared.spans.SpanKind.TheVariants.{Www, Email}
@@ -185,7 +185,7 @@ LinksAreLimited =
     × (told nothing (calls_of many_links) (answers_of many_links) ≡ record { note = replicate 66 10; ended = true; resolved = false; links = runs 64 0 })
 
 abbrev pub EveryScriptComesOut : Type 0
-EveryScriptComesOut = All ComesOut scripts × LinksAreLimited
+EveryScriptComesOut = AllByRecursion ComesOut scripts × LinksAreLimited
 
 -- ---- event lists that look right
 
@@ -238,4 +238,4 @@ wrong_lists =
     []
 
 abbrev pub EveryWrongListIsRefuted : Type 0
-EveryWrongListIsRefuted = All Refuted wrong_lists
+EveryWrongListIsRefuted = AllByRecursion Refuted wrong_lists

@@ -2,7 +2,7 @@
 -- A span is a Segment of the machine's laws: a name, and the bytes from `from` to `to` − 1.
 -- Assumes nothing.
 use Rattle.std.specs.Prelude.{◌≡◌, ℕ, suc, ◌≤◌, Bool, true, false, cond, not, ◌&&◌, List, [], ◌∷◌, ◌++◌, length, filter, ◌==◌, nat_le, nat_lt}
-use Rattle.std.specs.List.{AllByRecursion as All}
+use Rattle.std.specs.List.{AllByRecursion}
 use Rattle.text.specs.Places.{point_at}
 use Rattle.rules.specs.Web.{is_web}
 use Rattle.machine.specs.declared.events.Event.{Event}
@@ -135,4 +135,4 @@ pub record Placed (note : List ℕ) (e : Event) : Type 0 where
 -- every exit closes the latest enter still open, no span is empty, and each point is right
 pub record LawfulEvents (note : List ℕ) (es : List Event) : Type 0 where
   pub nested : nests [] es ≡ true
-  pub placed : All (Placed note) es
+  pub placed : AllByRecursion (Placed note) es

@@ -1,7 +1,7 @@
 -- A list of calls on a new reader, what the calls and their answers tell, and what holds at every moment.
 -- member is the meaning of the reader's punctuation set.
 -- Assumes nothing.
-use Rattle.std.specs.Prelude.{◌≡◌, ℕ, ◌+◌, ◌≤◌, Bool, true, false, cond, ◌||◌, List, [], ◌∷◌, ◌++◌, length, get_or, take, Ok, Err, slice_index_or}
+use Rattle.std.specs.Prelude.{◌≡◌, ℕ, ◌+◌, ◌≤◌, Bool, true, false, cond, ◌||◌, List, [], ◌∷◌, ◌++◌, length, take, Ok, Err, slice_index_or}
 use Rattle.machine.specs.declared.events.Event.{Event}
 use Rattle.calls.specs.declared.links.MarkedRun.{MarkedRun}
 use Rattle.calls.specs.declared.scripts.Call.{Call}
@@ -87,12 +87,12 @@ pub record Replayed (member : ℕ → Bool) (calls : List Call) (got : List Answ
 
 -- the same of a reader that was looked at before the first call and after each: to the answers of before come `got`, to what was
 -- seen before come the readers of all moments, and each of them holds what its moment says
-pub record Watched (member : ℕ → Bool) (calls : List Call) (answers-before answers-after : List Answer) (seen-before seen-after : List Model) (last : Model) : Type 0 where
+pub record Watched (member : ℕ → Bool) (calls : List Call) (answers_before answers_after : List Answer) (seen_before seen_after : List Model) (last : Model) : Type 0 where
   pub got : List Answer
   pub moments : List Model
-  pub got_them : answers-after ≡ answers-before ++ got
-  pub saw_them : seen-after ≡ seen-before ++ moments
+  pub got_them : answers_after ≡ answers_before ++ got
+  pub saw_them : seen_after ≡ seen_before ++ moments
   pub each_answered : length got ≡ length calls
   pub each_seen : length moments ≡ length calls + 1
   pub always : Always member calls got (λ k. held (slice_index_or moments k new))
-  pub last_moment : get_or moments (length calls) new ≡ last
+  pub last_moment : slice_index_or moments (length calls) new ≡ last
