@@ -1,6 +1,6 @@
 -- The report, piece by piece and line by line.
 -- Assumes nothing.
-use Rattle.std.proofs.Common.{◌≡◌, ℕ, ◌+◌, ◌<◌, ◌≤◌, List, [], ◌∷◌, ◌++◌, length, get_or, take, sym, refl, ap, ◌∙◌, append_assoc, append_nil}
+use Rattle.std.proofs.Common.{◌≡◌, ℕ, ◌+◌, ◌<◌, ◌≤◌, List, [], ◌∷◌, ◌++◌, length, get_or, take, sym, refl, ap, ◌∙◌, append_assoc, append-nil}
 use Rattle.std.proofs.lemmas.List.{take_more, take_all}
 use Rattle.text.specs.declared.spans.Span.{Span}
 use Rattle.addresses.specs.Report.{address_line, address_lines, summary}
@@ -21,7 +21,7 @@ pub lines_more : (s : List ℕ) (xs : List Span) (i : ℕ) (d : Span) → i < le
 lines_more s xs i d lt =
     ap (address_lines s) (take_more xs i d lt)
     ∙ lines-append s (take i xs) (get_or xs i d ∷ [])
-    ∙ ap (λ (l : List ℕ). address_lines s (take i xs) ++ l) (append_nil (address_line s (get_or xs i d)))
+    ∙ ap (λ (l : List ℕ). address_lines s (take i xs) ++ l) (append-nil (address_line s (get_or xs i d)))
 
 -- a loop over the spans: one line more, and the summary after the last
 pub line_after : (s : List ℕ) (xs : List Span) (i : ℕ) (d : Span) (v w : List ℕ) → i < length xs → v ≡ address_lines s (take i xs) → w ≡ v ++ address_line s (get_or xs i d) → w ≡ address_lines s (take (i + 1) xs)

@@ -4,7 +4,7 @@ use Rattle.std.proofs.Common.{◌≡◌, ℕ, ◌-◌, ◌≤◌, Bool, true, fa
 use Rattle.std.proofs.lemmas.List.{take_at}
 use Rattle.std.proofs.lemmas.Bool.{cond-true, cond-false, leb-false, ltb-false}
 use Rattle.std.proofs.ByRecursion.{All-weaker}
-use Rattle.std.specs.List.{AllByRecursion as All}
+use Rattle.std.specs.List.{AllByRecursion}
 use Rattle.text.specs.declared.refusals.Fault.{Fault}
 use Rattle.text.specs.declared.refusals.Fault.TheVariants.{NoteTooLong, BufferTooShort}
 use Rattle.text.specs.declared.spans.Span.{Span}
@@ -45,7 +45,7 @@ from-to s x a =
     ⊎_elim (λ e. omega (arith, a.local_part, e, d.0, d.1)) (λ r. omega (arith, a.local_part, r.1.1, d.0, d.1)) a.to_the_end
 
 -- each address lies within the note
-pub each_within : (s : List ℕ) (xs : List Span) → EachIsAnAddress s xs → All (Within s) xs
+pub each_within : (s : List ℕ) (xs : List Span) → EachIsAnAddress s xs → AllByRecursion (Within s) xs
 each_within s xs h = All-weaker (Address s) (Within s) (λ x a. (omega (arith, from-to s x a), a.within)) xs h
 
 -- what is reported

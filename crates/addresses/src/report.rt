@@ -1,6 +1,6 @@
 // What the program prints of a note: a line for each mail address, and last a line that says what was done.
 ghost use Rattle.std.specs.Prelude.{◌≡◌, ◌++◌, length, IfOk, string_bytes, OnOk};
-ghost use Rattle.std.specs.List.{AllByRecursion as All};
+ghost use Rattle.std.specs.List.{AllByRecursion};
 ghost use Rattle.addresses.specs.Report.{Within, refusal_line, noun, head, address_line, address_lines, summary, report};
 
 use rules::notes::find_note_addresses;
@@ -40,7 +40,7 @@ pub(crate) fn report_refusal(heap: Global, fault: Fault) -> Result<Vec<u8>, Allo
 }
 
 fn list_addresses(heap: Global, note: &[u8], spans: &[Span]) -> Result<Vec<u8>, AllocError>
-    requires { All (Within note.now) spans.now }
+    requires { AllByRecursion (Within note.now) spans.now }
     ensures { IfOk result (λ v. v.items ≡ address_lines note.now spans.now ++ summary (length spans.now) (length note.now)) }
 {
     let mut report = Vec::new(heap);

@@ -1,5 +1,5 @@
 use Rattle.std.proofs.Common.{◌≡◌, ◌-◌, List, ◌++◌, length, take, vec_items, sym, ◌∙◌, subst}
-use Rattle.std.specs.List.{AllByRecursion as All}
+use Rattle.std.specs.List.{AllByRecursion}
 use Rattle.std.proofs.lemmas.Result.{IfOk-weaker}
 use Rattle.text.specs.declared.spans.Span.{Span}
 use Rattle.addresses.specs.Report.{Within, refusal_line, address_lines, summary, report}
@@ -10,7 +10,7 @@ pub list_addresses-requires : goal.list_addresses-requires
 list_addresses-requires c =
     let s = c.args.note.now in
     let a = accepted s c.args.spans.now c.find_note_addresses.new.out c.in-Ok.count c.in-Ok.ensures.answer c.find_note_addresses.ensures.written in
-    subst (All (Within s)) (sym a.1) (each_within s _ c.find_note_addresses.ensures.each_is_an_address)
+    subst (AllByRecursion (Within s)) (sym a.1) (each_within s _ c.find_note_addresses.ensures.each_is_an_address)
 
 pub returns-in-Ok : goal.returns-in-Ok
 returns-in-Ok c =
