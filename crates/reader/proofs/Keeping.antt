@@ -10,7 +10,7 @@ use Rattle.machine.specs.declared.cursors.Until.{Until}
 use Rattle.machine.specs.declared.cursors.Until.TheVariants.{End}
 use Rattle.machine.specs.Invariant.{Sound}
 use Rattle.machine.specs.Moves.{Machine, settled}
-use Rattle.machine.specs.Runs.{Outcome, run}
+use Rattle.machine.specs.Runs.{run}
 use Rattle.machine.proofs.Facts.{sound_lawful}
 use Rattle.machine.proofs.Turns.{run_sound, settled_sound}
 use Rattle.tokenizer.specs.Joining.{paired}

@@ -1,6 +1,6 @@
 -- Which model a reader is, and what it says of its events.
 -- Assumes nothing.
-use Rattle.std.specs.Prelude.{ℕ, Bool, cond, List, length, Ok, Err, vec_items, Result, nat_lt, slice_index_or}
+use Rattle.std.specs.Prelude.{ℕ, cond, List, length, Ok, Err, vec_items, Result, nat_lt, slice_index_or}
 use Rattle.text.specs.declared.refusals.Fault.{Fault}
 use Rattle.text.specs.declared.refusals.Fault.TheVariants.{NoSuchEvent}
 use Rattle.machine.specs.declared.events.Event.{Event}

@@ -5,7 +5,7 @@ use Rattle.reader.specs.Kept.{Kept}
 use Rattle.reader.proofs.reader.Reader.load.Goals as goal
 
 pub invariant_of-self : goal.invariant_of-self
-invariant_of-self g c = (
-  omega (arith, c.truncate.ensures.capacity, c.args.self.now.reserved),
-  (∣ subst (Kept Loaded) (sym c.restart.ensures) (sound_beginning c.args.note.now) ∣₁, tt),
-)
+invariant_of-self g c = record {
+  reserved = omega (arith, c.truncate.ensures.capacity, c.args.self.now.reserved);
+  kept = ∣ subst (Kept Loaded) (sym c.restart.ensures) (sound_beginning c.args.note.now) ∣₁;
+}
