@@ -1,4 +1,4 @@
-// The reader for C and Rust: `rt staticlib note_reader` makes libnote_reader.a with these functions.
+// The reader for C and Rust: `rt lib` in this crate's folder makes out/libnote_reader.a with these functions.
 // They serve comparing and measuring (compare/): what they read is proved, what they hand out is only checked by running.
 #![tactic(auto)]
 
