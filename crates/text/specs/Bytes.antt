@@ -1,5 +1,5 @@
 -- Words on lists of bytes: which bytes, which places, which parts, and the first place with a property.
--- A place is a number of bytes from the start. `get_or s i 0`, the byte at i, is 0 past the end.
+-- A place is a number of bytes from the start. `slice_index s i`, the byte at i, is 0 past the end.
 -- Assumes nothing.
 use Rattle.std.specs.Prelude.{ℕ, zero, suc, ◌-◌, Bool, true, false, cond, ◌&&◌, ◌||◌, List, [], ◌∷◌, length, take, drop, ◌==◌, nat_le}
 

@@ -1,6 +1,6 @@
 -- The number and the place of each refusal.
 -- Assumes nothing.
-use Rattle.std.specs.Prelude.{ℕ, Bool, nat_eq}
+use Rattle.std.specs.Prelude.{◌≡◌, ℕ, Bool, Decides, nat_eq}
 use Rattle.std.specs.Ordering.{on, eq_of_both}
 use Rattle.text.specs.declared.refusals.Fault.{Fault}
 use Rattle.text.specs.declared.refusals.Fault.TheVariants.{NoteTooLong, AlreadyLoaded, NothingLoaded, OutOfTurn, NoAllowance, TargetOutOfRange, EndTooEarly, NotEnded, RunNotMarkable, TooManyLinks, NoSuchEvent, NotResolved, EditOutOfRange, EditInsideRemoval, NoRoomForEdit, BufferTooShort, BadRangeListLength, UnlawfulRange}
@@ -49,3 +49,7 @@ place (UnlawfulRange rank) = rank
 -- number and place tell every refusal from every other
 abbrev pub same_fault : Fault → Fault → Bool
 same_fault = eq_of_both (on number nat_eq) (on place nat_eq)
+
+-- and the same number and place are the same refusal
+abbrev pub SameFaultIsEqual : Type 0
+SameFaultIsEqual = (f g : Fault) → Decides (same_fault f g) (f ≡ g)

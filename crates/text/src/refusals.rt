@@ -1,6 +1,6 @@
 // Every refusal of the software: docs/REFUSALS.md says who is turned away for what.
 ghost use Rattle.std.specs.Prelude.{◌≡◌, Decides};
-ghost use Rattle.text.specs.Refusals.{number, place, same_fault};
+ghost use Rattle.text.specs.Refusals.{number, place, same_fault, SameFaultIsEqual};
 ghost use Rattle.std.specs.Cmp.{partial_equiv_from_equiv};
 ghost use Rattle.std.specs.Cmp.Rules.{comparing};
 ghost use Rattle.std.proofs.Common.{rules};
@@ -77,6 +77,7 @@ impl PartialEq for Fault {
     fn eq(&self, other: &Fault) -> bool
         ensures answer { result ≡ same_fault self.now other.now }
         ensures exact { Decides result (self.now ≡ other.now) }
+        ensures same_fault_is_equal { SameFaultIsEqual }
     {
         self.number() == other.number() && self.place() == other.place()
     }
