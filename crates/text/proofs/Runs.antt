@@ -1,9 +1,10 @@
 -- Parts of a list of bytes, what holds of their bytes, and where a run of bytes starts.
 -- Assumes nothing.
-use Rattle.std.proofs.Common.{◌≡◌, ℕ, zero, suc, ◌+◌, ◌-◌, ◌<◌, ◌≤◌, Bool, true, false, ◌||◌, List, [], ◌∷◌, ◌++◌, length, get_or, take, drop, sym, refl, ap, ◌∙◌, ⊎_elim, arith}
-use Rattle.std.proofs.lemmas.Bool.{and_from, and_left, and_right, or_cases, true≢false}
+use Rattle.std.proofs.Common.{◌≡◌, ℕ, suc, ◌+◌, ◌-◌, ◌<◌, ◌≤◌, Bool, true, false, ◌||◌, List, [], ◌∷◌, ◌++◌, length, get_or, take, drop, sym, refl, ap, ◌∙◌, ⊎_elim, arith}
+use Rattle.std.proofs.lemmas.Bool.{or_cases, true≢false}
 use Rattle.std.proofs.lemmas.List.{get_or-take, get_or-drop, length-take, length-drop}
 use Rattle.std.proofs.lemmas.List.Edits.{between_more}
+use Rattle.std.proofs.lemmas.List.Recursion.{and_from_places, and_fails_at, or_push}
 use Rattle.text.specs.Bytes.{some, each, part, run_start}
 use Rattle.text.proofs.Firsts.{seek-first, first-seek}
 
@@ -13,18 +14,13 @@ part_length a b s h = simp (length-take, length-drop) (omega arith)
 pub part_at : (a b : ℕ) (s : List ℕ) (j : ℕ) → j < b - a → get_or (part a b s) j 0 ≡ get_or s (a + j) 0
 part_at a b s j h = rw (get_or-take, get_or-drop)
 
--- ---- each byte
+-- ---- each byte, and some byte
 
 each_true : (p : ℕ → Bool) (xs : List ℕ) → ((j : ℕ) → j < length xs → p (get_or xs j 0) ≡ true) → each p xs ≡ true
-each_true p [] h = refl
-each_true p (x ∷ xs) h = and_from (p x) (each p xs) (h 0 (omega arith)) (each_true p xs (λ j lt. h (suc j) (omega arith)))
+each_true p xs h = and_from_places (each p) p refl (λ x rest. refl) xs 0 h
 
 each_false : (p : ℕ → Bool) (xs : List ℕ) (j : ℕ) → j < length xs → p (get_or xs j 0) ≡ false → each p xs ≡ false
-each_false p [] j lt h = absurd (omega arith)
-each_false p (x ∷ xs) zero lt h = and_left (p x) (each p xs) h
-each_false p (x ∷ xs) (suc j) lt h = and_right (p x) (each p xs) (each_false p xs j (omega arith) h)
-
--- ---- some byte: which one, and one step on
+each_false p xs j lt h = and_fails_at (each p) p refl (λ x rest. refl) xs j 0 lt h
 
 pub some_at : (p : ℕ → Bool) (xs : List ℕ) → some p xs ≡ true → (j : ℕ) × (j < length xs) × (p (get_or xs j 0) ≡ true)
 some_at p [] e = absurd (true≢false (sym e))
@@ -34,17 +30,8 @@ some_at p (x ∷ xs) e =
     (λ later. let w = some_at p xs later in (suc w.0, omega (arith, w.1), w.2))
     (or_cases (p x) (some p xs) e)
 
-or_assoc : (x y z : Bool) → (x || (y || z)) ≡ ((x || y) || z)
-or_assoc true y z = refl
-or_assoc false y z = refl
-
-or_false : (x : Bool) → (x || false) ≡ x
-or_false true = refl
-or_false false = refl
-
 some-push : (p : ℕ → Bool) (xs : List ℕ) (x : ℕ) → some p (xs ++ x ∷ []) ≡ (some p xs || p x)
-some-push p [] x = or_false (p x)
-some-push p (y ∷ ys) x = ap (λ t. p y || t) (some-push p ys x) ∙ or_assoc (p y) (some p ys) (p x)
+some-push p xs x = or_push (some p) p refl (λ y rest. refl) xs x
 
 pub some_more : (p : ℕ → Bool) (s : List ℕ) (a i : ℕ) → a ≤ i → i < length s → some p (part a (i + 1) s) ≡ (some p (part a i s) || p (get_or s i 0))
 some_more p s a i le lt = ap (some p) (between_more s a i 0 le lt) ∙ some-push p (part a i s) (get_or s i 0)

@@ -10,9 +10,7 @@ impl fmt::Display for Fault {
     ghost output = { λ fault. Some (refusal_shown fault) };
 
     fn fmt<W: fmt::Write>(&self, f: &mut fmt::Formatter<W>) -> fmt::Result {
-        let number = self.number();
-        let place = self.place();
-        write!(f, "refused {number} {place}")
+        write!(f, "refused {} {}", self.number(), self.place())
     }
 }
 
@@ -20,13 +18,12 @@ impl fmt::Display for SpanKind {
     ghost output = { λ kind. Some (kind_shown kind) };
 
     fn fmt<W: fmt::Write>(&self, f: &mut fmt::Formatter<W>) -> fmt::Result {
-        let name = match self {
+        f.write_str(match self {
             SpanKind::Www => "www",
             SpanKind::Protocol => "protocol",
             SpanKind::Email => "email",
             SpanKind::Mailto => "mailto",
             SpanKind::Xmpp => "xmpp",
-        };
-        write!(f, "{name}")
+        })
     }
 }

@@ -2,8 +2,13 @@
 ghost use Rattle.std.specs.Prelude.{◌≡◌, ◌+◌, ◌-◌, ◌*◌, ◌<◌, ◌≤◌, length, slice_index};
 ghost use Rattle.text.specs.Places.{after_tab, past, place_of, point, point_at, shifted, checked_target, shift_answer, LineCountsLineEndings, TabsFillUp, LeadsToPlaces};
 
-use crate::notes::check_length;
+use crate::notes::{LONGEST_NOTE, check_length};
 use crate::refusals::Fault;
+
+// A note of nothing but line endings has the highest line, and one of nothing but tabs the highest column.
+const HIGHEST_LINE: usize = LONGEST_NOTE + 1;
+
+const HIGHEST_COLUMN: usize = 4 * LONGEST_NOTE + 1;
 
 // A place: line and column from 1, the byte's number from 0, and how many columns of a tab have been shown.
 #[derive(Clone, Copy, PartialEq, Eq, Debug)]
@@ -34,8 +39,8 @@ fn check_target(from: &Point, index: usize, length: usize) -> Result<(), Fault>
 {
     if from.index > index
         || index > length
-        || from.line > 1025
-        || from.column > 4097
+        || from.line > HIGHEST_LINE
+        || from.column > HIGHEST_COLUMN
         || from.vs > 0
     {
         return Err(Fault::TargetOutOfRange);
@@ -54,10 +59,8 @@ fn walk(from: Point, note: &[u8], index: usize) -> Point
     ensures tabs_fill_up { TabsFillUp note.now }
 {
     let mut next = from;
-    while next.index < index {
-        let byte = note[next.index];
-        let after = byte_at(note, next.index + 1);
-        next = pass(next, byte, after);
+    for at in from.index..index {
+        next = pass(next, note[at], byte_at(note, at + 1));
     }
     next
 }
@@ -66,7 +69,7 @@ fn walk(from: Point, note: &[u8], index: usize) -> Point
 fn byte_at(note: &[u8], index: usize) -> u8
     ensures { result ≡ slice_index note.now index }
 {
-    if index < note.len() { note[index] } else { 0 }
+    note.get(index).copied().unwrap_or(0)
 }
 
 // Where the walk goes from a point at the byte `byte`, which stands before `after`.

@@ -29,6 +29,7 @@ pub enum Fault {
 }
 
 impl Fault {
+    // Kept: the number is what the formats write; code that asks which refusal it is matches the cases.
     pub fn number(&self) -> u8
         ensures { result ≡ number self.now }
     {
@@ -55,6 +56,7 @@ impl Fault {
     }
 
     // 0 where the case has no place of its own.
+    // Kept: no Option, since the formats write 0 there.
     pub fn place(&self) -> usize
         ensures { result ≡ place self.now }
     {
@@ -69,6 +71,7 @@ impl Fault {
 }
 
 // Number and place tell every refusal from every other.
+// Kept: a derive has no contract, and this one promises of `==` and `!=` that number and place decide them.
 impl PartialEq for Fault {
     ghost eq = { same_fault };
 

@@ -17,3 +17,10 @@ pub struct Span {
     pub from: usize,
     pub to: usize,
 }
+
+// What a table of spans holds before it is written: no span of a note is empty.
+pub const NO_SPAN: Span = Span {
+    kind: SpanKind::Email,
+    from: 0,
+    to: 0,
+};
