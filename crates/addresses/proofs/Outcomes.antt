@@ -1,6 +1,6 @@
 -- What the call that finds a note's addresses tells the report, accepted or refused.
 -- Assumes nothing.
-use Rattle.std.proofs.Common.{◌≡◌, ℕ, ◌-◌, ◌≤◌, Bool, true, false, cond, leb, List, ◌++◌, length, take, drop, Ok, Err, Result, sym, refl, ap, ◌∙◌, ⊎_elim, arith}
+use Rattle.std.proofs.Common.{◌≡◌, ℕ, ◌≤◌, Bool, true, false, cond, leb, List, ◌++◌, length, take, drop, Ok, Err, sym, refl, ap, ◌∙◌, ⊎_elim, arith}
 use Rattle.std.proofs.lemmas.List.{take_at}
 use Rattle.std.proofs.lemmas.Bool.{cond-true, cond-false, leb-false, ltb-false}
 use Rattle.std.proofs.ByRecursion.{All-weaker}
@@ -14,29 +14,25 @@ use Rattle.rules.specs.MailLaws.{Address, EachIsAnAddress}
 use Rattle.rules.proofs.Lines.{note-few}
 use Rattle.addresses.specs.Report.{Within, refusal_line, address_lines, summary, report}
 
-not_both : {X : Type 0} (n : ℕ) (f : Fault) → ◌≡◌ {A = Result ℕ Fault} (Ok n) (Err f) → X
-not_both n f e = let z : ◌≡◌ {A = ℕ} 0 1 = cc in absurd (omega arith)
-
 -- a refused note is too long: the slice has room for every other
 refused_as : (s : List ℕ) (lent : List Span) (f : Fault) (long short : Bool) → too_long s ≡ long → leb (length (note_addresses s)) (length lent) ≡ short → length lent ≡ 1024 → Err f ≡ cond long (Err NoteTooLong) (cond short (Ok (length (note_addresses s))) (Err (BufferTooShort (length (note_addresses s))))) → (f ≡ NoteTooLong) × (long ≡ true)
 refused_as s lent f true short l h room e = (cc, refl)
-refused_as s lent f false true l h room e = not_both (length (note_addresses s)) f (sym e)
+refused_as s lent f false true l h room e = cc
 refused_as s lent f false false l h room e =
     absurd (omega (arith, leb-false (length (note_addresses s)) (length lent) h, note-few s, ltb-false 1024 (length s) l))
 
-pub refused : (s : List ℕ) (lent : List Span) (f : Fault) → length lent ≡ 1024 → Err f ≡ note_answer s lent → (f ≡ NoteTooLong) × (too_long s ≡ true)
-refused s lent f room e = refused_as s lent f (too_long s) (leb (length (note_addresses s)) (length lent)) refl refl room e
+pub refused : (s : List ℕ) (lent out : List Span) (f : Fault) → Err f ≡ note_answer s lent → out ≡ note_written s lent → length lent ≡ 1024 → (f ≡ NoteTooLong) × (too_long s ≡ true)
+refused s lent out f e written room = refused_as s lent f (too_long s) (leb (length (note_addresses s)) (length lent)) refl refl room e
 
 -- an accepted one is not, and its addresses stand at the front
-accepted_as : (xs lent out : List Span) (n : ℕ) (long short : Bool) → Ok n ≡ cond long (Err NoteTooLong) (cond short (Ok (length xs)) (Err (BufferTooShort (length xs)))) → out ≡ cond long lent (cond short (xs ++ drop (length xs) lent) lent) → (long ≡ false) × (take (n - 0) out ≡ xs)
-accepted_as xs lent out n true short e w = not_both n NoteTooLong e
-accepted_as xs lent out n false false e w = not_both n (BufferTooShort (length xs)) e
+accepted_as : (xs lent out : List Span) (n : ℕ) (long short : Bool) → Ok n ≡ cond long (Err NoteTooLong) (cond short (Ok (length xs)) (Err (BufferTooShort (length xs)))) → out ≡ cond long lent (cond short (xs ++ drop (length xs) lent) lent) → (long ≡ false) × (take n out ≡ xs)
+accepted_as xs lent out n true short e w = cc
+accepted_as xs lent out n false false e w = cc
 accepted_as xs lent out n false true e w =
     let same : n ≡ length xs = cc in
-    let count : length xs ≡ n - 0 = omega (arith, same) in
-    (refl, ap (take (n - 0)) w ∙ take_at xs (drop (length xs) lent) (n - 0) count)
+    (refl, ap (take n) w ∙ take_at xs (drop (length xs) lent) n (sym same))
 
-pub accepted : (s : List ℕ) (lent out : List Span) (n : ℕ) → Ok n ≡ note_answer s lent → out ≡ note_written s lent → (too_long s ≡ false) × (take (n - 0) out ≡ note_addresses s)
+pub accepted : (s : List ℕ) (lent out : List Span) (n : ℕ) → Ok n ≡ note_answer s lent → out ≡ note_written s lent → (too_long s ≡ false) × (take n out ≡ note_addresses s)
 accepted s lent out n e w = accepted_as (note_addresses s) lent out n (too_long s) (leb (length (note_addresses s)) (length lent)) e w
 
 from-to : (s : List ℕ) (x : Span) → Address s x → x.from ≤ x.to

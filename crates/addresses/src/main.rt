@@ -26,8 +26,6 @@ fn main(rt: HostRuntime) -> io::Result<()> {
 }
 
 fn is_marked_asked(rt: &HostRuntime) -> io::Result<bool> {
-    match env::args(rt)?.nth(1) {
-        Some(word) => Ok(word.as_str() == "--marked"),
-        None => Ok(false),
-    }
+    let word = env::args(rt)?.nth(1);
+    Ok(word.is_some_and(|word| word.as_str() == "--marked"))
 }

@@ -14,7 +14,7 @@ pub fn make_copy(heap: Global, note: &[u8]) -> Result<Vec<u8>, AllocError>
     let mut map = EditMap::new(heap)?;
     let mut out = [0u8; LONGEST_COPY];
     match mark_addresses(&mut map, note, &mut out) {
-        Ok(count) => Vec::from_slice(heap, &out[0..count]),
+        Ok(count) => Vec::from_slice(heap, &out[..count]),
         Err(fault) => report_refusal(heap, fault),
     }
 }

@@ -6,28 +6,16 @@ ghost use Rattle.addresses.specs.Report.{Within, refusal_line, noun, head, addre
 use rules::notes::find_note_addresses;
 use std::alloc::{AllocError, Global};
 use text::notes::LONGEST_NOTE;
-use text::{Fault, Span, SpanKind};
-
-// No note has more addresses than bytes.
-const NO_SPAN: Span = Span {
-    kind: SpanKind::Email,
-    from: 0,
-    to: 0,
-};
+use text::spans::NO_SPAN;
+use text::{Fault, Span};
 
 pub fn make_report(heap: Global, note: &[u8]) -> Result<Vec<u8>, AllocError>
     ensures { IfOk result (λ v. v.items ≡ report note.now) }
 {
+    // No note has more addresses than bytes.
     let mut spans = [NO_SPAN; LONGEST_NOTE];
-    report_with_room(heap, note, &mut spans)
-}
-
-fn report_with_room(heap: Global, note: &[u8], spans: &mut [Span]) -> Result<Vec<u8>, AllocError>
-    requires { length spans.old ≡ 1024 }
-    ensures { IfOk result (λ v. v.items ≡ report note.now) }
-{
-    match find_note_addresses(note, spans) {
-        Ok(count) => list_addresses(heap, note, &spans[0..count]),
+    match find_note_addresses(note, &mut spans) {
+        Ok(count) => list_addresses(heap, note, &spans[..count]),
         Err(fault) => report_refusal(heap, fault),
     }
 }
@@ -63,9 +51,7 @@ fn append_address(
 {
     let head = write_head(heap, span)?;
     report.extend_from_slice(head.as_bytes())?;
-    let from = span.from;
-    let to = span.to;
-    report.extend_from_slice(&note[from..to])?;
+    report.extend_from_slice(&note[span.from..span.to])?;
     report.extend_from_slice(b"\n")?;
     Ok(())
 }
@@ -73,10 +59,7 @@ fn append_address(
 fn write_head(heap: Global, span: Span) -> Result<String, AllocError>
     ensures { IfOk result (λ s. string_bytes s ≡ head span) }
 {
-    let kind = span.kind;
-    let from = span.from;
-    let to = span.to;
-    format!(in heap; "{kind} {from} {to} ")
+    format!(in heap; "{} {} {} ", span.kind, span.from, span.to)
 }
 
 fn summarize(heap: Global, count: usize, length: usize) -> Result<String, AllocError>
