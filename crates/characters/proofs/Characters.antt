@@ -1,53 +1,14 @@
--- What the table of byte sequences reads: nothing where the bytes are too few, what was written, and only what was written.
+-- What the table of byte sequences reads: what was written, and only what was written.
 -- Assumes nothing.
-use Rattle.std.proofs.Common.{◌≡◌, ℕ, ◌+◌, ◌-◌, ◌*◌, ◌/◌, ◌%◌, ◌<◌, ◌≤◌, true, false, T, leb, ◌⊎◌, List, [], ◌∷◌, ◌++◌, length, get_or, take, drop, Some, None, Option, sym, refl, ap, ◌∙◌, subst, inl, inr, ⊎_elim, arith, leb→le, length-append}
+use Rattle.std.proofs.Common.{◌≡◌, ℕ, ◌+◌, ◌-◌, ◌*◌, ◌/◌, ◌%◌, ◌<◌, ◌≤◌, true, false, ◌⊎◌, List, [], ◌∷◌, ◌++◌, length, get_or, take, drop, Some, None, Option, sym, refl, ap, ◌∙◌, subst, inl, inr, ⊎_elim, arith, length-append}
 use lib.Utf8.{scalar, encode, next, scalar_cases, low_scalar}
-use Rattle.std.proofs.lemmas.Bool.{cond-true, cond-false, and_right, or_from, cases_Bool, cases_lt, lt-ltb, le-ltb, true≢false}
+use Rattle.std.proofs.lemmas.Bool.{cond-true, cond-false, cases_Bool, cases_lt, lt-ltb, le-ltb, true≢false}
 use Rattle.std.proofs.lemmas.List.{take_rest, at_drop_all}
 use Rattle.std.proofs.lemmas.Str.{length-encode, len_utf8_bounds}
 use Rattle.std.proofs.lemmas.Bool.Decides.{nat_tests}
 use Rattle.std.specs.Option.{SomeIff}
-use Rattle.text.specs.Bytes.{within}
 use Rattle.characters.specs.CharacterExamples.{CharactersRead}
-use Rattle.characters.specs.Utf8.{Row, one_byte, two_bytes, three_bytes, four_bytes, begin_with, shaped, value, character, character_at, EncodedIsRead, ReadIsEncoded}
-
--- ---- bytes that are too few
-
-begin_short : (row : Row) (bs : List ℕ) → length bs < length row → begin_with row bs ≡ false
-begin_short [] bs h = absurd (omega arith)
-begin_short (r ∷ row) [] h = refl
-begin_short (r ∷ row) (b ∷ bs) h = and_right (within r.0 r.1 b) (begin_with row bs) (begin_short row bs (omega arith))
-
--- each row has n ranges or more
-abbrev Long : ℕ → List Row → Type 0
-Long n [] = Unit {0}
-Long n (r ∷ rows) = T (leb n (length r)) × Long n rows
-
-shaped_short : (n : ℕ) (rows : List Row) (bs : List ℕ) → Long n rows → length bs < n → shaped rows bs ≡ false
-shaped_short n [] bs l h = refl
-shaped_short n (r ∷ rows) bs l h = or_from (begin_with r bs) (shaped rows bs) (begin_short r bs (omega (arith, leb→le n (length r) l.0))) (shaped_short n rows bs l.1 h)
-
-three_short : (bs : List ℕ) → length bs < 3 → shaped three_bytes bs ≡ false
-three_short bs h = shaped_short 3 three_bytes bs (tt, (tt, (tt, (tt, tt)))) h
-
-four_short : (bs : List ℕ) → length bs < 4 → shaped four_bytes bs ≡ false
-four_short bs h = shaped_short 4 four_bytes bs (tt, (tt, (tt, tt))) h
-
-none_of : (bs : List ℕ) → shaped one_byte bs ≡ false → shaped two_bytes bs ≡ false → shaped three_bytes bs ≡ false → shaped four_bytes bs ≡ false → 65533 ≡ character bs
-none_of bs h1 h2 h3 h4 = sym (cond-false _ _ _ h1 ∙ cond-false _ _ _ h2 ∙ cond-false _ _ _ h3 ∙ cond-false _ _ _ h4)
-
-pub none_of_two : (bs : List ℕ) → 2 ≤ length bs → length bs < 3 → shaped one_byte (get_or bs 0 0 ∷ []) ≡ false → shaped two_bytes (get_or bs 0 0 ∷ get_or bs 1 0 ∷ []) ≡ false → 65533 ≡ character bs
-none_of_two [] l u h1 h2 = absurd (omega arith)
-none_of_two (a ∷ []) l u h1 h2 = absurd (omega arith)
-none_of_two (a ∷ b ∷ []) l u h1 h2 = none_of (a ∷ b ∷ []) h1 h2 (three_short (a ∷ b ∷ []) u) (four_short (a ∷ b ∷ []) (omega arith))
-none_of_two (a ∷ b ∷ c ∷ r) l u h1 h2 = absurd (omega arith)
-
-pub none_of_three : (bs : List ℕ) → 3 ≤ length bs → length bs < 4 → shaped one_byte (get_or bs 0 0 ∷ []) ≡ false → shaped two_bytes (get_or bs 0 0 ∷ get_or bs 1 0 ∷ []) ≡ false → shaped three_bytes (get_or bs 0 0 ∷ get_or bs 1 0 ∷ get_or bs 2 0 ∷ []) ≡ false → 65533 ≡ character bs
-none_of_three [] l u h1 h2 h3 = absurd (omega arith)
-none_of_three (a ∷ []) l u h1 h2 h3 = absurd (omega arith)
-none_of_three (a ∷ b ∷ []) l u h1 h2 h3 = absurd (omega arith)
-none_of_three (a ∷ b ∷ c ∷ []) l u h1 h2 h3 = none_of (a ∷ b ∷ c ∷ []) h1 h2 h3 (four_short (a ∷ b ∷ c ∷ []) u)
-none_of_three (a ∷ b ∷ c ∷ d ∷ r) l u h1 h2 h3 = absurd (omega arith)
+use Rattle.characters.specs.Utf8.{one_byte, two_bytes, three_bytes, four_bytes, shaped, value, character, character_at, EncodedIsRead, ReadIsEncoded}
 
 -- ---- what std writes of a scalar value, by its size
 
@@ -203,6 +164,9 @@ four_read (a ∷ b ∷ []) h = absurd (let z : ◌≡◌ {A = ℕ} 0 1 = grind (
 four_read (a ∷ b ∷ d ∷ []) h = absurd (let z : ◌≡◌ {A = ℕ} 0 1 = grind (arith, nat_tests) in omega arith)
 four_read (a ∷ b ∷ d ∷ e ∷ rest) h = four_begins a b d e rest (four_facts a b d e rest h)
 
+none_of : (bs : List ℕ) → shaped one_byte bs ≡ false → shaped two_bytes bs ≡ false → shaped three_bytes bs ≡ false → shaped four_bytes bs ≡ false → 65533 ≡ character bs
+none_of bs h1 h2 h3 h4 = sym (cond-false _ _ _ h1 ∙ cond-false _ _ _ h2 ∙ cond-false _ _ _ h3 ∙ cond-false _ _ _ h4)
+
 -- what is read is U+FFFD, or a scalar value whose encoding the bytes begin with
 pub read : (bs : List ℕ) → (character bs ≡ 65533) ⊎ Begins bs (character bs)
 read bs =
@@ -296,6 +260,13 @@ module _ (rest : List ℕ) where
       (cases_lt c 65536))
       (cases_lt c 2048))
       (cases_lt c 128)
+
+-- three bytes that fit a row
+pub three_here : (bs : List ℕ) (n : ℕ) → 3 ≤ length bs → (224 ≤ get_or bs 0 0) × (get_or bs 0 0 ≤ 239) → (128 ≤ get_or bs 1 0) × (get_or bs 1 0 ≤ 191) → (128 ≤ get_or bs 2 0) × (get_or bs 2 0 ≤ 191) → (224 < get_or bs 0 0) ⊎ (160 ≤ get_or bs 1 0) → (get_or bs 0 0 < 237) ⊎ ((get_or bs 1 0 ≤ 159) ⊎ (237 < get_or bs 0 0)) → n ≡ ((get_or bs 0 0 - 224) * 64 + (get_or bs 1 0 - 128)) * 64 + (get_or bs 2 0 - 128) → n ≡ character bs
+three_here [] n l a b d first third e = absurd (omega arith)
+three_here (x ∷ []) n l a b d first third e = absurd (omega arith)
+three_here (x ∷ y ∷ []) n l a b d first third e = absurd (omega arith)
+three_here (x ∷ y ∷ z ∷ rest) n l a b d first third e = e ∙ sym (read_three rest x y z a.0 a.1 b.0 b.1 d.0 d.1 first third)
 
 -- ---- at a place
 

@@ -1,12 +1,12 @@
 -- Which characters are white space.
 -- Assumes nothing.
-use Rattle.std.specs.Prelude.{ℕ, Bool, false, ◌||◌, List, [], ◌∷◌}
+use Rattle.std.specs.Prelude.{ℕ, Bool, List, [], ◌∷◌}
+use Rattle.std.specs.List.{list_any}
 use Rattle.text.specs.Bytes.{within}
 
 -- c is in one of these ranges, each from its first to its last value
 abbrev pub in_ranges : List (ℕ × ℕ) → ℕ → Bool
-in_ranges [] c = false
-in_ranges (r ∷ rs) c = within r.0 r.1 c || in_ranges rs c
+in_ranges rs c = list_any (λ r. within r.0 r.1 c) rs
 
 -- Unicode's White_Space
 abbrev pub white_space_ranges : List (ℕ × ℕ)

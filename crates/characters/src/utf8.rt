@@ -1,7 +1,7 @@
 // The character at a place of some bytes, by Unicode's table of well-formed byte sequences.
-ghost use Rattle.std.specs.Prelude.{◌≡◌, true, [], ◌∷◌};
+ghost use Rattle.std.specs.Prelude.{◌≡◌, ◌+◌, ◌-◌, ◌*◌, ◌<◌, ◌≤◌};
 ghost use Rattle.characters.specs.CharacterExamples.{CharactersRead};
-ghost use Rattle.characters.specs.Utf8.{one_byte, two_bytes, three_bytes, four_bytes, shaped, value, character, character_at, EncodedIsRead, ReadIsEncoded};
+ghost use Rattle.characters.specs.Utf8.{character, character_at, EncodedIsRead, ReadIsEncoded};
 
 // The character that begins at `index`, `None` at the end of the bytes and past it.
 // A byte that begins no well-formed sequence counts as U+FFFD.
@@ -17,75 +17,34 @@ pub fn char_at(bytes: &[u8], index: usize) -> Option<char>
     char::from_u32(decode(&bytes[index..]))
 }
 
-// The number of the first character.
+// The number of the first character. Each line of the patterns is a row of the table.
+#[rattlefmt::skip]
 fn decode(bytes: &[u8]) -> u32
     ensures { result ≡ character bytes.now }
 {
     match bytes {
-        [a, _rest @ ..] if is_one_byte(*a) => *a as u32,
-        [a, b, _rest @ ..] if is_two_bytes(*a, *b) => value_of_two(*a, *b),
-        [a, b, c, _rest @ ..] if is_three_bytes(*a, *b, *c) => value_of_three(*a, *b, *c),
-        [a, b, c, d, _rest @ ..] if is_four_bytes(*a, *b, *c, *d) => value_of_four(*a, *b, *c, *d),
+        [a @ 0x00..=0x7F, _rest @ ..] => u32::from(*a),
+        [a @ 0xC2..=0xDF, b @ 0x80..=0xBF, _rest @ ..] => add_six(u32::from(*a - 0xC0), *b),
+        [a @ 0xE0, b @ 0xA0..=0xBF, c @ 0x80..=0xBF, _rest @ ..]
+        | [a @ 0xE1..=0xEC, b @ 0x80..=0xBF, c @ 0x80..=0xBF, _rest @ ..]
+        | [a @ 0xED, b @ 0x80..=0x9F, c @ 0x80..=0xBF, _rest @ ..]
+        | [a @ 0xEE..=0xEF, b @ 0x80..=0xBF, c @ 0x80..=0xBF, _rest @ ..] => {
+            add_six(add_six(u32::from(*a - 0xE0), *b), *c)
+        }
+        [a @ 0xF0, b @ 0x90..=0xBF, c @ 0x80..=0xBF, d @ 0x80..=0xBF, _rest @ ..]
+        | [a @ 0xF1..=0xF3, b @ 0x80..=0xBF, c @ 0x80..=0xBF, d @ 0x80..=0xBF, _rest @ ..]
+        | [a @ 0xF4, b @ 0x80..=0x8F, c @ 0x80..=0xBF, d @ 0x80..=0xBF, _rest @ ..] => {
+            add_six(add_six(add_six(u32::from(*a - 0xF0), *b), *c), *d)
+        }
         _ => 0xFFFD,
     }
 }
 
-// Each of these says whether the bytes are a character of so many bytes: a line of its patterns is a row of the table.
-
-fn is_one_byte(a: u8) -> bool
-    ensures { result ≡ shaped one_byte (a ∷ []) }
+// The bits so far, and after them the six of a further byte.
+fn add_six(bits: u32, further: u8) -> u32
+    requires few { bits < 0x10000 }
+    requires marked { 0x80 ≤ further }
+    ensures { result ≡ bits * 64 + (further - 0x80) }
 {
-    matches!(a, 0x00..=0x7F)
-}
-
-fn is_two_bytes(a: u8, b: u8) -> bool
-    ensures { result ≡ shaped two_bytes (a ∷ b ∷ []) }
-{
-    matches!((a, b), (0xC2..=0xDF, 0x80..=0xBF))
-}
-
-fn is_three_bytes(a: u8, b: u8, c: u8) -> bool
-    ensures { result ≡ shaped three_bytes (a ∷ b ∷ c ∷ []) }
-{
-    matches!(
-        (a, b, c),
-        (0xE0, 0xA0..=0xBF, 0x80..=0xBF)
-            | (0xE1..=0xEC, 0x80..=0xBF, 0x80..=0xBF)
-            | (0xED, 0x80..=0x9F, 0x80..=0xBF)
-            | (0xEE..=0xEF, 0x80..=0xBF, 0x80..=0xBF)
-    )
-}
-
-fn is_four_bytes(a: u8, b: u8, c: u8, d: u8) -> bool
-    ensures { result ≡ shaped four_bytes (a ∷ b ∷ c ∷ d ∷ []) }
-{
-    matches!(
-        (a, b, c, d),
-        (0xF0, 0x90..=0xBF, 0x80..=0xBF, 0x80..=0xBF)
-            | (0xF1..=0xF3, 0x80..=0xBF, 0x80..=0xBF, 0x80..=0xBF)
-            | (0xF4, 0x80..=0x8F, 0x80..=0xBF, 0x80..=0xBF)
-    )
-}
-
-// Each of these joins the bits of such bytes: those of the first above its mark, and six of each further one.
-
-fn value_of_two(a: u8, b: u8) -> u32
-    requires { shaped two_bytes (a ∷ b ∷ []) ≡ true }
-    ensures { result ≡ value 0xC0 1 (a ∷ b ∷ []) }
-{
-    (a as u32 - 0xC0) * 64 + (b as u32 - 0x80)
-}
-
-fn value_of_three(a: u8, b: u8, c: u8) -> u32
-    requires { shaped three_bytes (a ∷ b ∷ c ∷ []) ≡ true }
-    ensures { result ≡ value 0xE0 2 (a ∷ b ∷ c ∷ []) }
-{
-    ((a as u32 - 0xE0) * 64 + (b as u32 - 0x80)) * 64 + (c as u32 - 0x80)
-}
-
-fn value_of_four(a: u8, b: u8, c: u8, d: u8) -> u32
-    requires { shaped four_bytes (a ∷ b ∷ c ∷ d ∷ []) ≡ true }
-    ensures { result ≡ value 0xF0 3 (a ∷ b ∷ c ∷ d ∷ []) }
-{
-    (((a as u32 - 0xF0) * 64 + (b as u32 - 0x80)) * 64 + (c as u32 - 0x80)) * 64 + (d as u32 - 0x80)
+    bits * 64 + u32::from(further - 0x80)
 }

@@ -1,6 +1,6 @@
 // Which characters are white space.
 ghost use Rattle.std.specs.Prelude.{◌≡◌};
-ghost use Rattle.characters.specs.WhiteSpace.{in_ranges, white_space};
+ghost use Rattle.characters.specs.WhiteSpace.{white_space};
 
 // Unicode's White_Space, as ranges with their first and last character.
 const WHITE_SPACE: [(char, char); 10] = [
@@ -19,16 +19,7 @@ const WHITE_SPACE: [(char, char); 10] = [
 pub fn is_white_space(c: char) -> bool
     ensures { result ≡ white_space c }
 {
-    is_in_ranges(&WHITE_SPACE, c)
-}
-
-fn is_in_ranges(ranges: &[(char, char)], c: char) -> bool
-    ensures { result ≡ in_ranges ranges.now c }
-{
-    for (first, last) in ranges {
-        if *first <= c && c <= *last {
-            return true;
-        }
-    }
-    false
+    WHITE_SPACE
+        .iter()
+        .any(|(first, last)| *first <= c && c <= *last)
 }

@@ -11,7 +11,7 @@ pub fn char_width(bytes: &[u8], index: usize) -> usize
 {
     match char_at(bytes, index) {
         None => 0,
-        Some(c) if c == char::REPLACEMENT_CHARACTER => measure_replacement(&bytes[index..]),
+        Some(char::REPLACEMENT_CHARACTER) => measure_replacement(&bytes[index..]),
         Some(c) => c.len_utf8(),
     }
 }
