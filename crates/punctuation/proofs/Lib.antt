@@ -1,2 +1,3 @@
+pub mod KeptRanges
 pub mod RangeLaws
 pub mod RangeSearch

@@ -1,6 +1,7 @@
 -- Range lists: numbers first, last, first, last. Which ranges are lawful, which are taken up, and what a list is refused for.
 -- Assumes nothing.
-use Rattle.std.specs.Prelude.{◌≡◌, ℕ, zero, suc, ◌+◌, ◌*◌, ◌/◌, ◌%◌, ◌<◌, ◌≤◌, min, Bool, true, false, cond, not, ◌&&◌, ◌||◌, List, length, Ok, Err, Result, ◌==◌, nat_le, nat_lt, slice_index}
+use Rattle.std.specs.Prelude.{◌≡◌, ℕ, zero, suc, ◌+◌, ◌*◌, ◌/◌, ◌%◌, ◌<◌, ◌≤◌, min, Bool, true, false, cond, not, ◌&&◌, ◌||◌, List, [], ◌∷◌, length, Ok, Err, Result, ◌==◌, nat_le, nat_lt, slice_index}
+use Rattle.std.specs.List.{flat_map}
 use Rattle.std.proofs.Math.Utf8.{scalar}
 use Rattle.text.specs.declared.refusals.Fault.{Fault}
 use Rattle.text.specs.declared.refusals.Fault.TheVariants.{BadRangeListLength, UnlawfulRange}
@@ -26,6 +27,10 @@ beyond_the_one_before xs (suc k) = nat_lt (last_of xs k) (first_of xs (suc k))
 abbrev pub lawful : List ℕ → ℕ → Bool
 lawful xs k = nat_le 128 (first_of xs k) && nat_le (first_of xs k) (last_of xs k) && nat_le (last_of xs k) 1114111 && beyond_the_one_before xs k
 
+-- a range of numbers in order, the first beyond b
+abbrev pub lawful_after : ℕ → List ℕ → Bool
+lawful_after b r = nat_lt b (slice_index r 0) && nat_le (slice_index r 0) (slice_index r 1) && nat_le (slice_index r 1) 1114111
+
 -- how many of the first n ranges come before the first unlawful one
 abbrev pub lawful_front : List ℕ → ℕ → ℕ
 lawful_front xs n = seek (λ k. not (lawful xs k)) n 0
@@ -35,6 +40,10 @@ lawful_front xs n = seek (λ k. not (lawful xs k)) n 0
 -- the longest lawful front of at most 512 ranges
 abbrev pub taken_up : List ℕ → ℕ
 taken_up xs = lawful_front xs (min (range_count xs) 512)
+
+-- the numbers of some ranges, as a list has them
+abbrev pub numbers_of : List (List ℕ) → List ℕ
+numbers_of rs = flat_map (λ r. slice_index r 0 ∷ slice_index r 1 ∷ []) rs
 
 -- c lies in one of the first n ranges
 abbrev pub in_first : List ℕ → ℕ → ℕ → Bool

@@ -9,11 +9,10 @@ impl fmt::Display for CharacterKind {
     ghost output = { λ kind. Some (character_kind_shown kind) };
 
     fn fmt<W: fmt::Write>(&self, f: &mut fmt::Formatter<W>) -> fmt::Result {
-        let name = match self {
+        f.write_str(match self {
             CharacterKind::Whitespace => "white-space",
             CharacterKind::Punctuation => "punctuation",
             CharacterKind::Other => "other",
-        };
-        write!(f, "{name}")
+        })
     }
 }

@@ -1,10 +1,11 @@
 // Range lists: punctuation sets made of numbers that a caller lends.
-ghost use Rattle.std.specs.Prelude.{◌≡◌, ℕ, ◌+◌, ◌*◌, ◌<◌, ◌≤◌, true, length};
-ghost use Rattle.punctuation.specs.RangeLists.{lawful, lawful_front, taken_up, in_first, range_member, bad_length, ranges_check, range_list_check, LongestLawfulFront, AcceptedIsTakenWhole, RefusedIsFirstUnlawful, house};
+ghost use Rattle.std.specs.Prelude.{◌≡◌, ◌*◌, length, take};
+ghost use Rattle.punctuation.specs.RangeLists.{lawful_after, lawful_front, taken_up, numbers_of, range_member, bad_length, ranges_check, range_list_check, LongestLawfulFront, AcceptedIsTakenWhole, RefusedIsFirstUnlawful, house};
 ghost use Rattle.punctuation.specs.KindExamples.{HouseMembers, KindsTold};
 ghost use Rattle.punctuation.specs.HighScalars.{range_member_high};
 
 use crate::sets::PunctuationSet;
+use std::cmp::Ordering;
 use text::refusals::Fault;
 
 // The most numbers that the check accepts.
@@ -13,42 +14,61 @@ const MOST_NUMBERS: usize = 1024;
 // The most ranges that are taken up.
 const MOST_RANGES: usize = 512;
 
+// A range begins beyond the first of these, and ends at the second or before.
+const LAST_ASCII: u32 = 0x7F;
+
+const LAST_SCALAR: u32 = 0x10FFFF;
+
 // U+2010 to U+2027 and U+2030 to U+205E.
 const HOUSE_RANGES: [u32; 4] = [0x2010, 0x2027, 0x2030, 0x205E];
 
-// The numbers are first, last, first, last. Members are the scalar values in the ranges up to the
-// first unlawful one, 512 at most: the rest of the list is ignored.
+// Members are the scalar values in the ranges, each of a first and a last number.
 #[derive(Clone, Copy)]
 pub struct RangeList<'a> {
-    numbers: &'a [u32],
-    count: usize,
-    ghost ok: { count ≡ taken_up numbers.now },
+    ranges: &'a [[u32; 2]],
+    ghost whole: { taken_up (numbers_of ranges.now) ≡ length ranges.now },
 }
 
 impl<'a> RangeList<'a> {
-    // Takes up any list, and never refuses one.
+    // Takes up any list of numbers first, last, first, last, and never refuses one. What follows the ranges up to
+    // the first unlawful one, 512 at most, is ignored.
     pub fn new(numbers: &'a [u32]) -> RangeList<'a>
-        ensures lent { result.numbers.now ≡ numbers.now }
-        ensures longest { LongestLawfulFront numbers.now result.count }
+        ensures lent { numbers_of result.ranges.now ≡ take (2 * length result.ranges.now) numbers.now }
+        ensures longest { LongestLawfulFront numbers.now (length result.ranges.now) }
+        ensures members { range_member (numbers_of result.ranges.now) ≡ range_member numbers.now }
     {
-        let count = count_taken_up(numbers);
-        RangeList { numbers, count }
+        let (ranges, _odd) = numbers.as_chunks::<2>();
+        let ranges = &ranges[..ranges.len().min(MOST_RANGES)];
+        RangeList {
+            ranges: &ranges[..count_lawful(ranges)],
+        }
     }
 }
 
 impl PunctuationSet for RangeList<'_> {
-    ghost member = { λ s. range_member s.numbers.now };
+    ghost member = { λ s. range_member (numbers_of s.ranges.now) };
 
-    ghost high = { λ s. range_member_high s.numbers.now };
+    ghost high = { λ s. range_member_high (numbers_of s.ranges.now) };
 
     fn contains(&mut self, c: char) -> bool {
-        is_in_first(self.numbers, self.count, c as u32)
+        let code = u32::from(c);
+        self.ranges
+            .binary_search_by(|[first, last]| {
+                if code < *first {
+                    Ordering::Greater
+                } else if *last < code {
+                    Ordering::Less
+                } else {
+                    Ordering::Equal
+                }
+            })
+            .is_ok()
     }
 }
 
 // The set that notes are read with where no other is given.
 pub fn house_set() -> RangeList<'static>
-    ensures meaning { range_member result.numbers.now ≡ house }
+    ensures meaning { range_member (numbers_of result.ranges.now) ≡ house }
     ensures members { HouseMembers }
     ensures kinds { KindsTold }
 {
@@ -76,60 +96,31 @@ fn has_bad_length(numbers: &[u32]) -> bool
 fn check_ranges(numbers: &[u32]) -> Result<(), Fault>
     ensures { result ≡ ranges_check numbers.now }
 {
-    let whole = numbers.len() / 2;
-    let count = count_lawful(numbers, whole);
-    if count < whole {
+    let (ranges, _odd) = numbers.as_chunks::<2>();
+    let count = count_lawful(ranges);
+    if count < ranges.len() {
         return Err(Fault::UnlawfulRange(count));
     }
     Ok(())
 }
 
-fn count_taken_up(numbers: &[u32]) -> usize
-    ensures { result ≡ taken_up numbers.now }
+// How many ranges come before the first unlawful one.
+fn count_lawful(ranges: &[[u32; 2]]) -> usize
+    ensures { result ≡ lawful_front (numbers_of ranges.now) (length ranges.now) }
 {
-    let whole = numbers.len() / 2;
-    count_lawful(numbers, whole.min(MOST_RANGES))
-}
-
-// How many of the first `n` ranges come before the first unlawful one.
-fn count_lawful(numbers: &[u32], n: usize) -> usize
-    requires { 2 * n ≤ length numbers.now }
-    ensures { result ≡ lawful_front numbers.now n }
-{
-    for k in 0..n {
-        if !is_lawful(numbers, k) {
+    let mut before = LAST_ASCII;
+    for (k, range) in ranges.iter().enumerate() {
+        if !is_lawful_after(before, range) {
             return k;
         }
+        before = range[1];
     }
-    n
+    ranges.len()
 }
 
-fn is_lawful(numbers: &[u32], k: usize) -> bool
-    requires { 2 * k + 1 < length numbers.now }
-    ensures { result ≡ lawful numbers.now k }
+fn is_lawful_after(before: u32, range: &[u32; 2]) -> bool
+    ensures { result ≡ lawful_after before range.now }
 {
-    let first = numbers[2 * k];
-    let last = numbers[2 * k + 1];
-    128 <= first && first <= last && last <= 1_114_111 && (k == 0 || numbers[2 * k - 1] < first)
-}
-
-// Whether `c` lies in one of the first `count` ranges, by binary search.
-fn is_in_first(numbers: &[u32], count: usize, c: u32) -> bool
-    requires whole { 2 * count ≤ length numbers.now }
-    requires lawful { (k : ℕ) → k < count → lawful numbers.now k ≡ true }
-    ensures { result ≡ in_first numbers.now count c }
-{
-    let mut low = 0;
-    let mut high = count;
-    while low < high {
-        let middle = low + (high - low) / 2;
-        if c < numbers[2 * middle] {
-            high = middle;
-        } else if c > numbers[2 * middle + 1] {
-            low = middle + 1;
-        } else {
-            return true;
-        }
-    }
-    false
+    let [first, last] = *range;
+    before < first && first <= last && last <= LAST_SCALAR
 }

@@ -1,7 +1,7 @@
-use Rattle.std.proofs.Common.{◌≡◌, ◌-◌, not}
-use Rattle.text.specs.Bytes.{seek}
-use Rattle.punctuation.specs.RangeLists.{lawful, lawful_front}
+use Rattle.std.proofs.Common.{◌≡◌, ℕ, ◌<◌, true}
+use Rattle.punctuation.specs.RangeLists.{lawful, numbers_of}
+use Rattle.punctuation.proofs.KeptRanges.{last_before}
 use Rattle.punctuation.proofs.range_lists.count_lawful.Given as goal
 
 abbrev pub invariant-loop-k : goal.invariant-loop-k
-invariant-loop-k l = seek (λ k. not (lawful l.numbers k)) (l.n - l.k) l.k ≡ lawful_front l.numbers l.n
+invariant-loop-k l = record { each : (j : ℕ) → j < l.k → lawful (numbers_of l.ranges) j ≡ true; before : l.before ≡ last_before (numbers_of l.ranges) l.k }
