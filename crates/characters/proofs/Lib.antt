@@ -1,3 +1,3 @@
+pub mod CharacterLists
 pub mod CharacterWidths
 pub mod Characters
-pub mod InRanges

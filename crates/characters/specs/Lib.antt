@@ -1,4 +1,5 @@
 pub mod CharacterExamples
+pub mod CharacterLists
 pub mod Utf8
 pub mod WhiteSpace
 pub mod Widths
