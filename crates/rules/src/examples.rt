@@ -8,27 +8,38 @@ use text::{Span, SpanKind};
 // How many examples there are.
 pub const MAIL_EXAMPLES: usize = 15;
 
+// Data, and the address in it, if there is one.
+#[derive(Drop)]
+struct MailExample {
+    bytes: &'static [u8],
+    address: Option<Span>,
+}
+
+impl MailExample {
+    fn none(bytes: &'static [u8]) -> MailExample
+        ensures { result ≡ record { bytes = bytes.entry; address = None } }
+    {
+        MailExample {
+            bytes,
+            address: None,
+        }
+    }
+
+    fn one(bytes: &'static [u8], kind: SpanKind, from: usize, to: usize) -> MailExample
+        ensures { result ≡ record { bytes = bytes.entry; address = Some (record { kind = kind; from = from; to = to }) } }
+    {
+        MailExample {
+            bytes,
+            address: Some(Span { kind, from, to }),
+        }
+    }
+}
+
 // The data of an example: none past the last.
 pub fn example_data(rank: usize) -> &'static [u8]
     ensures { result.now ≡ (example rank).bytes }
 {
-    match rank {
-        0 => b"a@b.c1",
-        1 => b"a@b.c.",
-        2 => b"x/a@b.c",
-        3 => b"a@.b",
-        4 => b"xmpp:a@b.c/",
-        5 => b"xmpp:a@b.c/d",
-        6 => b"xmpp:a@b.c/d/e",
-        7 => b"xmpp:a@b.c/d@e",
-        8 => b"a@b.c@d.e",
-        9 => b"hello@world.com",
-        10 => b"\tc@d.e",
-        11 => b"(MailTo:a@b.c)",
-        12 => b"see:a@b.c",
-        13 => b"@",
-        _ => b"",
-    }
+    mail_example(rank).bytes
 }
 
 // The address in an example, if there is one.
@@ -36,23 +47,29 @@ pub fn example_address(rank: usize) -> Option<Span>
     ensures answer { option_to_list result ≡ (example rank).spans }
     ensures every_example_comes_out { EveryExampleComesOut }
 {
-    match rank {
-        1 => Some(span(SpanKind::Email, 0, 5)),
-        4 => Some(span(SpanKind::Xmpp, 0, 10)),
-        5 => Some(span(SpanKind::Xmpp, 0, 12)),
-        6 => Some(span(SpanKind::Xmpp, 0, 12)),
-        7 => Some(span(SpanKind::Xmpp, 0, 14)),
-        8 => Some(span(SpanKind::Email, 0, 5)),
-        9 => Some(span(SpanKind::Email, 0, 15)),
-        10 => Some(span(SpanKind::Email, 1, 6)),
-        11 => Some(span(SpanKind::Mailto, 1, 13)),
-        12 => Some(span(SpanKind::Email, 4, 9)),
-        _ => None,
-    }
+    mail_example(rank).address
 }
 
-fn span(kind: SpanKind, from: usize, to: usize) -> Span
-    ensures { result ≡ record { kind = kind; from = from; to = to } }
+// Kept: a function, since a proof has no name yet for a constant array of rows that hold references.
+fn mail_example(rank: usize) -> MailExample
+    ensures bytes { result.bytes.now ≡ (example rank).bytes }
+    ensures address { option_to_list result.address ≡ (example rank).spans }
 {
-    Span { kind, from, to }
+    match rank {
+        0 => MailExample::none(b"a@b.c1"),
+        1 => MailExample::one(b"a@b.c.", SpanKind::Email, 0, 5),
+        2 => MailExample::none(b"x/a@b.c"),
+        3 => MailExample::none(b"a@.b"),
+        4 => MailExample::one(b"xmpp:a@b.c/", SpanKind::Xmpp, 0, 10),
+        5 => MailExample::one(b"xmpp:a@b.c/d", SpanKind::Xmpp, 0, 12),
+        6 => MailExample::one(b"xmpp:a@b.c/d/e", SpanKind::Xmpp, 0, 12),
+        7 => MailExample::one(b"xmpp:a@b.c/d@e", SpanKind::Xmpp, 0, 14),
+        8 => MailExample::one(b"a@b.c@d.e", SpanKind::Email, 0, 5),
+        9 => MailExample::one(b"hello@world.com", SpanKind::Email, 0, 15),
+        10 => MailExample::one(b"\tc@d.e", SpanKind::Email, 1, 6),
+        11 => MailExample::one(b"(MailTo:a@b.c)", SpanKind::Mailto, 1, 13),
+        12 => MailExample::one(b"see:a@b.c", SpanKind::Email, 4, 9),
+        13 => MailExample::none(b"@"),
+        _ => MailExample::none(b""),
+    }
 }

@@ -16,12 +16,6 @@ pub fn is_web(kind: SpanKind) -> bool
     ensures segments_are_lawful { SegmentsAreLawful }
     ensures spans_are_lawful { SpansAreLawful }
 {
-    is_www_or_protocol(kind)
-}
-
-fn is_www_or_protocol(kind: SpanKind) -> bool
-    ensures { result ≡ is_web kind }
-{
     matches!(kind, SpanKind::Www | SpanKind::Protocol)
 }
 
@@ -32,12 +26,6 @@ pub fn count_examples() -> usize
     ensures every_example_comes_out { EveryExampleComesOut }
     ensures every_cut_comes_out { EveryCutComesOut }
     ensures every_trail_comes_out { EveryTrailComesOut }
-{
-    table_rows()
-}
-
-fn table_rows() -> usize
-    ensures { result ≡ sum_by length tables }
 {
     115
 }

@@ -1,11 +1,11 @@
 use Rattle.rules.proofs.Tried.{examples_out, cuts_out, trails_out}
 use Rattle.rules.proofs.web.count_examples.Goals as goal
 
-pub returns : goal.returns
-returns c =
-    record {
-      answer = c.table_rows.ensures;
-      every_example_comes_out = examples_out;
-      every_cut_comes_out = cuts_out;
-      every_trail_comes_out = trails_out;
-    }
+pub returns-clause-every_example_comes_out : goal.returns-clause-every_example_comes_out
+returns-clause-every_example_comes_out c = examples_out
+
+pub returns-clause-every_cut_comes_out : goal.returns-clause-every_cut_comes_out
+returns-clause-every_cut_comes_out c = cuts_out
+
+pub returns-clause-every_trail_comes_out : goal.returns-clause-every_trail_comes_out
+returns-clause-every_trail_comes_out c = trails_out
