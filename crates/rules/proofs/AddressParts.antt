@@ -1,6 +1,7 @@
 -- What the rules say of the address at an `@`: where its parts lie, and that the rule goes forward.
 -- Assumes nothing.
-use Rattle.std.proofs.Common.{◌≡◌, ℕ, ◌+◌, ◌-◌, ◌<◌, ◌≤◌, Bool, true, false, cond, not, ◌&&◌, eqb, ltb, ◌⊎◌, List, length, get_or, Some, None, codes, Option, sym, refl, ap, ◌∙◌, subst, inl, inr, ⊎_elim, arith}
+use Rattle.std.proofs.Common.{◌≡◌, ℕ, ◌+◌, ◌-◌, ◌<◌, ◌≤◌, Bool, true, false, cond, not, ◌&&◌, eqb, ltb, ◌⊎◌, List, ◌∷◌, length, get_or, Some, None, codes, Option, sym, refl, ap, ◌∙◌, subst, inl, inr, ⊎_elim, arith}
+use Rattle.std.specs.List.{AllByRecursion}
 use Rattle.std.proofs.lemmas.Bool.{eqb-true, eqb-false, ltb-true, and_parts, not-true, or_parts, cases_lt, cond-false, cond_both, true≢false}
 use Rattle.std.proofs.lemmas.List.{get_or_past}
 use Rattle.text.specs.declared.spans.Span.{Span}
@@ -10,7 +11,7 @@ use Rattle.text.specs.Ascii.{letter, letter_or_digit, reads}
 use Rattle.text.specs.Bytes.{some, part, run_start}
 use Rattle.text.proofs.Firsts.{first-within}
 use Rattle.text.proofs.Runs.{run_start-within, part_length, part_at, some_at}
-use Rattle.rules.specs.Mail.{atext, preceded_by, local_start, named, scheme, in_domain, domain_stop, valid_domain, in_resource, resource_stop, is_xmpp, after_domain, address_end, ended, started, address_at, addresses}
+use Rattle.rules.specs.Mail.{atext, preceded_by, local_start, named, scheme, in_domain, domain_stop, valid_domain, in_resource, resource_stop, is_xmpp, after_domain, address_end, ended, started, address_at, addresses, addresses_left}
 use Rattle.rules.specs.InTurn.{FoundInTurn, InTextOrder}
 use Rattle.rules.specs.MailLaws.{Domain, Address, EachIsAnAddress}
 use Rattle.rules.proofs.Turns.{Forward, left-in_order, left-in_turn, left-all}
@@ -190,3 +191,11 @@ addresses-in_turn s = left-in_turn (address_at s) s (mail-forward s) 0
 
 pub addresses_are : (s : List ℕ) → EachIsAnAddress s (addresses s)
 addresses_are s = left-all (address_at s) s (mail-forward s) (Address s) (λ c k x le e. at_is_address s c k x (address_at-is s c k x le e)) 0
+
+-- the next one is not empty, and ends within the data
+pub next_inside : (s : List ℕ) (c : ℕ) (x : Span) (xs : List Span) → addresses_left s c ≡ x ∷ xs → (x.from < x.to) × (x.to ≤ length s)
+next_inside s c x xs e =
+    let f = mail-forward s in
+    let Inside : Span → Type 0 = λ y. (y.from < y.to) × (y.to ≤ length s) in
+    let all : AllByRecursion Inside (addresses_left s c) = left-all (address_at s) s f Inside (λ d i y le is. (f.some d i y le is, f.high d i y le is)) c in
+    (subst (AllByRecursion Inside) e all).0

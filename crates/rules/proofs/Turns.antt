@@ -1,6 +1,6 @@
 -- The spans of a rule, one after another: the next one, those that are left, and the laws of all of them.
 -- Assumes nothing.
-use Rattle.std.proofs.Common.{◌≡◌, ℕ, zero, suc, ◌+◌, ◌-◌, ◌<◌, ◌≤◌, true, false, List, [], ◌∷◌, length, get_or, drop, is_some, Some, None, Option, sym, refl, ap, ◌∙◌, subst, ⊎_elim, add-one, arith, length-drop, drop-cons}
+use Rattle.std.proofs.Common.{◌≡◌, ℕ, zero, suc, ◌+◌, ◌-◌, ◌<◌, ◌≤◌, false, List, [], ◌∷◌, length, is_some, Some, None, Option, sym, refl, ap, ◌∙◌, subst, ⊎_elim, arith}
 use Rattle.std.specs.List.{AllByRecursion}
 use Rattle.std.proofs.lemmas.Bool.{cases_lt, true≢false}
 use Rattle.text.specs.declared.spans.Span.{Span}
@@ -30,18 +30,6 @@ none_of : (o : Option Span) → is_some o ≡ false → o ≡ None
 none_of None e = refl
 none_of (Some x) e = absurd (true≢false e)
 
-some-is-some : (o : Option Span) (x : Span) → o ≡ Some x → is_some o ≡ true
-some-is-some o x e = ap is_some e
-
--- what follows the first k elements of a list begins with x
-rest_cons : {X : Type 0} (xs : List X) (k : ℕ) (x : X) (ys : List X) → drop k xs ≡ x ∷ ys → (k < length xs) × ((get_or xs k x ≡ x) × (drop (k + 1) xs ≡ ys))
-rest_cons xs k x ys e =
-    let long : length (drop k xs) ≡ length (x ∷ ys) = ap length e in
-    let lt : k < length xs = omega (arith, long, length-drop k xs) in
-    let here : drop k xs ≡ get_or xs k x ∷ drop (suc k) xs = drop-cons xs k x lt in
-    let both : get_or xs k x ∷ drop (suc k) xs ≡ x ∷ ys = sym here ∙ e in
-    (lt, (cc, rw add-one (cc)))
-
 -- ---- rules that go forward
 
 -- a rule that gives nothing past the end, and whose spans begin at or after the end of the one before, are not empty,
@@ -64,14 +52,11 @@ module _ (rule : Rule) (s : List ℕ) (f : Forward rule s) where
   at_none : (c j : ℕ) → c ≤ j → j < at c → rule c j ≡ None
   at_none c j a b = none_of (rule c j) ((seek-first (λ i. is_some (rule c i)) (length s - c) c).none j a b)
 
-  pub next-on : (c : ℕ) (x : Span) → next rule s c ≡ Some x → c < x.to
+  next-on : (c : ℕ) (x : Span) → next rule s c ≡ Some x → c < x.to
   next-on c x e = omega (arith, f.on c (at c) x (at_low c) e, at_low c)
 
-  pub next_high : (c : ℕ) (x : Span) → next rule s c ≡ Some x → x.to ≤ length s
+  next_high : (c : ℕ) (x : Span) → next rule s c ≡ Some x → x.to ≤ length s
   next_high c x e = f.high c (at c) x (at_low c) e
-
-  pub next-some : (c : ℕ) (x : Span) → next rule s c ≡ Some x → x.from < x.to
-  next-some c x e = f.some c (at c) x (at_low c) e
 
   past-none : (c : ℕ) → length s ≤ c → next rule s c ≡ None
   past-none c le = f.ends c (at c) (omega (arith, at_low c))
@@ -147,7 +132,7 @@ module _ (rule : Rule) (s : List ℕ) (f : Forward rule s) where
       over-left (λ _ xs. AllByRecursion Q xs) (λ c e. tt)
       (λ c x xs e r. (h c (at c) x (at_low c) e, r))
 
-  -- ---- how a loop over all of them steps
+  -- ---- how many they are
 
   length-left : (c : ℕ) → length (left c) ≤ length s - c
   length-left =
@@ -156,24 +141,3 @@ module _ (rule : Rule) (s : List ℕ) (f : Forward rule s) where
 
   pub at_most : length (all rule s) ≤ length s
   at_most = omega (arith, length-left 0)
-
-  -- k of them are behind, and the last of these ended at c
-  pub record Behind (k c : ℕ) : Type 0 where
-    pub few : k ≤ c
-    pub inside : c ≤ length s
-    pub ranked : k ≤ length (all rule s)
-    pub rest : drop k (all rule s) ≡ left c
-
-  pub behind_none : Behind 0 0
-  behind_none = record { few = omega arith; inside = omega arith; ranked = omega arith; rest = refl }
-
-  -- the next one is the one of rank k, and then one more is behind
-  pub behind_more : (k c : ℕ) (x : Span) → Behind k c → next rule s c ≡ Some x → (k < length (all rule s)) × ((get_or (all rule s) k x ≡ x) × Behind (k + 1) x.to)
-  behind_more k c x b e =
-      let w = rest_cons (all rule s) k x (left x.to) (b.rest ∙ left-more c x e) in
-      (w.0, (w.1.0, record { few = omega (arith, b.few, next-on c x e); inside = next_high c x e; ranked = omega (arith, w.0); rest = w.1.1 }))
-
-  pub behind_all : (k c : ℕ) → Behind k c → next rule s c ≡ None → k ≡ length (all rule s)
-  behind_all k c b e =
-      let none : length (drop k (all rule s)) ≡ 0 = ap length (b.rest ∙ left-none c e) in
-      omega (arith, b.ranked, none, length-drop k (all rule s))

@@ -1,30 +1,56 @@
 -- Spans written one after another over those of a lent slice.
 -- Assumes nothing.
-use Rattle.std.proofs.Common.{◌≡◌, ℕ, ◌+◌, ◌<◌, ◌≤◌, Bool, true, false, cond, leb, List, [], ◌∷◌, ◌++◌, map, length, get_or, drop, set, Ok, Err, Result, sym, refl, ap, ◌∙◌, subst, zero-add, arith}
+use Rattle.std.proofs.Common.{◌≡◌, ℕ, ◌+◌, ◌<◌, ◌≤◌, Bool, true, false, cond, leb, List, [], ◌∷◌, ◌++◌, length, get_or, drop, set, Some, None, Option, Ok, Err, Result, sym, refl, ap, ◌∙◌, zero-add, arith}
 use lib.Seq.{paste}
-use Rattle.std.proofs.lemmas.List.{length-map, get_or-map}
 use Rattle.std.proofs.lemmas.List.Edits.{paste_more, paste_all}
-use Rattle.std.proofs.lemmas.Bool.{le-leb, le-ltb, ltb-false, cond-true, cond-false}
+use Rattle.std.proofs.lemmas.Bool.{leb-true, le-leb, le-ltb, ltb-false, cond-true, cond-false}
+use Rattle.std.proofs.lemmas.Iterator.{YieldsList}
+use Rattle.std.proofs.lemmas.Iterator.Consumers.{YieldsList-from_enumerate, YieldsList-turn, YieldsList-end}
+use Rattle.std.proofs.lemmas.List.FromFn.{length-enumerate_from, get_or-enumerate_from}
+use Rattle.std.specs.Iterator.{Yields, AlwaysYields}
+use Rattle.std.specs.Iterator.Adapters.{enumerate_source, enumerate_count, enumerate_steps}
+use Rattle.std.specs.declared.iter.Enumerate.{Enumerate}
 use Rattle.text.specs.declared.refusals.Fault.{Fault}
 use Rattle.text.specs.declared.refusals.Fault.TheVariants.{BufferTooShort, NoteTooLong}
 use Rattle.text.specs.Notes.{too_long, checked_length}
-use Rattle.text.specs.Lent.{written_count, overwritten}
+use Rattle.text.specs.Lent.{room_for, written_count, overwritten}
 use Rattle.text.specs.declared.spans.Span.{Span}
-use Rattle.rules.specs.Notes.{moved, note_addresses, note_answer, note_written}
+use Rattle.rules.specs.Notes.{note_addresses, note_answer, note_written}
 
--- one more: x is the span of rank k, and the data begins at byte base of the note
-pub write_more : (out : List Span) (first base : ℕ) (xs : List Span) (k : ℕ) (x : Span) → first + length xs ≤ length out → k < length xs → get_or xs k x ≡ x → set (paste out first (map (moved base) xs) k) (first + k) (moved base x) ≡ paste out first (map (moved base) xs) (k + 1)
-write_more out first base xs k x room lt e =
-    let ys = map (moved base) xs in
-    let long : length ys ≡ length xs = length-map xs (moved base) in
-    let here : get_or ys k (moved base x) ≡ moved base x = get_or-map (moved base) xs k x (moved base x) lt ∙ ap (moved base) e in
-    subst (λ (y : Span). set (paste out first ys k) (first + k) y ≡ paste out first ys (k + 1)) here
-    (paste_more out first ys k (moved base x) (omega arith) (omega arith))
+-- where there is room
+room_as : (n k : ℕ) (b : Bool) → Ok k ≡ cond b (Ok n) (Err (BufferTooShort n)) → (b ≡ true) × (k ≡ n)
+room_as n k true h = (refl, cc)
+room_as n k false h = let z : ◌≡◌ {A = ℕ} 0 1 = cc in absurd (omega arith)
 
--- data that begins at the note's start
-moved_none : (xs : List Span) → map (moved 0) xs ≡ xs
-moved_none [] = refl
-moved_none (x ∷ xs) = λ i. record { kind = x.kind; from = zero-add x.from i; to = zero-add x.to i } ∷ moved_none xs i
+pub room : (n long k : ℕ) → Ok k ≡ room_for n long → (n ≤ long) × (k ≡ n)
+room n long k h = let w = room_as n k (leb n long) h in (leb-true n long w.0, w.1)
+
+-- one more span, the one of rank k
+pub write_one : (lent out all : List Span) (k : ℕ) (x : Span) → length all ≤ length lent → k < length all → x ≡ get_or all k x → out ≡ paste lent 0 all k → set out k x ≡ paste lent 0 all (k + 1)
+write_one lent out all k x fits lt is so_far =
+    ap (λ (o : List Span). set o k x) so_far
+    ∙ ap (λ (y : Span). set (paste lent 0 all k) k y) is
+    ∙ ap (λ i. set (paste lent 0 all k) i (get_or all k x)) (sym (zero-add k))
+    ∙ paste_more lent 0 all k x (omega arith) lt
+
+-- one turn of a loop over the spans with their places
+pub turn : {S : Type 0} {steps : S → Option Span → S → Type 0} {s : Enumerate S} {all : List Span} → YieldsList steps (λ x. x) (enumerate_source s) all → enumerate_count s ≡ 0 → (done : List (ℕ × Span)) (t : Enumerate S) → Yields (enumerate_steps steps) s done t → (r : Option (ℕ × Span)) (u : Enumerate S) (i : ℕ) (x : Span) → r ≡ Some (i, x) → enumerate_steps steps t r u → (length done < length all) × (i ≡ length done) × (x ≡ get_or all (length done) x)
+turn {all = all} yields none done t y r u i x is step =
+    let w = YieldsList-turn (YieldsList-from_enumerate yields none) done t y r u (i, x) is step in
+    let lt : length done < length all = omega (arith, w.0, length-enumerate_from 0 all) in
+    let both : (i, x) ≡ (0 + length done, get_or all (length done) x) = w.1 ∙ get_or-enumerate_from 0 all (length done) (i, x) lt in
+    (lt, ap (λ p. p.0) both ∙ zero-add (length done), ap (λ p. p.1) both)
+
+-- after the last turn, all of them
+pub turns-end : {S : Type 0} {steps : S → Option Span → S → Type 0} {s : Enumerate S} {all : List Span} → YieldsList steps (λ x. x) (enumerate_source s) all → enumerate_count s ≡ 0 → (done : List (ℕ × Span)) (t : Enumerate S) → Yields (enumerate_steps steps) s done t → (r : Option (ℕ × Span)) (u : Enumerate S) → r ≡ None → enumerate_steps steps t r u → length done ≡ length all
+turns-end {all = all} yields none done t y r u is step =
+    let w = YieldsList-end (YieldsList-from_enumerate yields none) done t y r u is step in
+    omega (arith, w.1, length-enumerate_from 0 all)
+
+-- what an iterator gives, it gives where its steps are known to be more
+pub yields_by : {S : Type 0} (steps less : S → Option Span → S → Type 0) → ((s : S) (r : Option Span) (t : S) → steps s r t → less s r t) → (s : S) (xs : List Span) → AlwaysYields less (λ x. x) s xs → AlwaysYields steps (λ x. x) s xs
+yields_by steps less h s [] w = λ x t e. w x t (h s (Some x) t e)
+yields_by steps less h s (y ∷ ys) w = (λ t e. w.0 t (h s None t e), λ x t e. let v = w.1 x t (h s (Some x) t e) in (v.0, yields_by steps less h t ys v.1))
 
 -- ---- a slice that is long enough, and one that is not
 
@@ -35,9 +61,6 @@ written_front xs out le =
     ∙ ap (λ k. xs ++ drop k out) n
     ∙ sym (cond-true (leb (length xs) (length out)) (xs ++ drop (length xs) out) out (le-leb (length xs) (length out) le))
 
-pub written_moved : (xs out : List Span) → length xs ≤ length out → paste out 0 (map (moved 0) xs) (length xs) ≡ overwritten xs out
-written_moved xs out le = ap (λ (ys : List Span). paste out 0 ys (length xs)) (moved_none xs) ∙ written_front xs out le
-
 -- where the check of the room refuses, the slice stays
 short_as : (xs out : List Span) (b : Bool) (f : Fault) → Err f ≡ cond b (Ok (length xs)) (Err (BufferTooShort (length xs))) → out ≡ cond b (xs ++ drop (length xs) out) out
 short_as xs out true f h = let z : ◌≡◌ {A = ℕ} 0 1 = cc in absurd (omega arith)
@@ -47,16 +70,6 @@ pub short_kept : (xs out : List Span) (f : Fault) → Err f ≡ written_count xs
 short_kept xs out f h = short_as xs out (leb (length xs) (length out)) f h
 
 -- ---- a note that is too long, and one that is not
-
-long_as : (s : List ℕ) (out : List Span) (b : Bool) (f : Fault) → Err f ≡ cond b (Err NoteTooLong) (Ok (length s)) → (Err f ≡ cond b (Err NoteTooLong) (written_count (note_addresses s) out)) × (out ≡ cond b out (overwritten (note_addresses s) out))
-long_as s out true f h = (h, refl)
-long_as s out false f h = let z : ◌≡◌ {A = ℕ} 0 1 = cc in absurd (omega arith)
-
-pub long-answer : (s : List ℕ) (out : List Span) (f : Fault) → Err f ≡ checked_length s → Err f ≡ note_answer s out
-long-answer s out f h = (long_as s out (too_long s) f h).0
-
-pub long_kept : (s : List ℕ) (out : List Span) (f : Fault) → Err f ≡ checked_length s → out ≡ note_written s out
-long_kept s out f h = (long_as s out (too_long s) f h).1
 
 length_as : (s : List ℕ) (b : Bool) (n : ℕ) → too_long s ≡ b → Ok n ≡ cond b (Err NoteTooLong) (Ok (length s)) → length s ≤ 1024
 length_as s true n e h = let z : ◌≡◌ {A = ℕ} 0 1 = cc in absurd (omega arith)

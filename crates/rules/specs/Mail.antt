@@ -1,13 +1,13 @@
 -- Which parts of the data are mail addresses.
 -- s is the data, k the place of an `@`, and c the end of the address before, 0 at first.
 -- Assumes nothing.
-use Rattle.std.specs.Prelude.{ℕ, ◌+◌, ◌-◌, Bool, true, false, cond, not, ◌&&◌, ◌||◌, List, Some, None, codes, Option, ◌==◌, nat_eq, nat_lt, slice_index}
+use Rattle.std.specs.Prelude.{ℕ, ◌+◌, ◌-◌, Bool, true, false, cond, not, ◌&&◌, ◌||◌, List, Some, None, codes, length, Option, ◌==◌, nat_eq, nat_lt, slice_index}
 use Rattle.text.specs.declared.spans.Span.{Span}
 use Rattle.text.specs.declared.spans.SpanKind.{SpanKind}
 use Rattle.text.specs.declared.spans.SpanKind.TheVariants.{Www, Protocol, Email, Mailto, Xmpp}
 use Rattle.text.specs.Ascii.{letter, letter_or_digit, reads}
 use Rattle.text.specs.Bytes.{among, some, part, first, run_start}
-use Rattle.rules.specs.InTurn.{all}
+use Rattle.rules.specs.InTurn.{in_turn, all}
 
 -- ---- where an address starts
 
@@ -91,3 +91,7 @@ address_at s c k = cond (slice_index s k == 64) (started s c k (local_start s c 
 -- each `@` in order, from the end of the address before
 abbrev pub addresses : List ℕ → List Span
 addresses s = all (address_at s) s
+
+-- those that are left where the one before ended at c
+abbrev pub addresses_left : List ℕ → ℕ → List Span
+addresses_left s c = in_turn (address_at s) s (length s) c

@@ -7,7 +7,7 @@ use Rattle.text.specs.declared.spans.Span.{Span}
 use Rattle.text.specs.Bytes.{among, part, first}
 use Rattle.text.specs.Notes.{too_long}
 use Rattle.text.specs.Lent.{written_count, overwritten}
-use Rattle.rules.specs.Mail.{addresses}
+use Rattle.rules.specs.Mail.{addresses, addresses_left}
 
 -- CR and LF: a line's data holds neither
 abbrev pub line_ending_byte : ℕ → Bool
@@ -32,6 +32,10 @@ lines_from s (suc n) i = cond (nat_lt i (length s)) (line_addresses s i ++ lines
 -- no note has more lines with bytes in them than it has bytes
 abbrev pub note_addresses : List ℕ → List Span
 note_addresses s = lines_from s (length s) 0
+
+-- those that are left where the line at i, with its data, has given those up to its byte c
+abbrev pub note_addresses_left : List ℕ → ℕ → List ℕ → ℕ → List Span
+note_addresses_left s i line c = map (moved i) (addresses_left line c) ++ lines_from s (length s) (i + length line + 1)
 
 -- what the call answers, and what the lent slice holds then
 abbrev pub note_answer : List ℕ → List Span → Result ℕ Fault

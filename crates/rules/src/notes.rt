@@ -1,12 +1,11 @@
 // The mail addresses of a note, line by line.
-ghost use Rattle.std.specs.Prelude.{◌≡◌, ◌≤◌, length};
-ghost use Rattle.text.specs.Lent.{overwritten};
+ghost use Rattle.std.specs.Prelude.{◌≡◌, ◌+◌, ◌≤◌, length};
+ghost use Rattle.std.specs.Iterator.{YieldsFirst, item_count};
 ghost use Rattle.rules.specs.InTurn.{InTextOrder};
 ghost use Rattle.rules.specs.MailLaws.{EachIsAnAddress};
-ghost use Rattle.rules.specs.Notes.{line_ending_byte, line_stop, note_addresses, note_answer, note_written};
+ghost use Rattle.rules.specs.Notes.{line_ending_byte, line_stop, lines_from, note_addresses, note_addresses_left, note_answer, note_written};
 
-use crate::addresses::{count_addresses, write_addresses};
-use text::lent::check_room;
+use crate::addresses::{Addresses, write_front};
 use text::notes::check_length;
 use text::{Fault, Span};
 
@@ -18,38 +17,58 @@ pub fn find_note_addresses(note: &[u8], out: &mut [Span]) -> Result<usize, Fault
     ensures each_is_an_address { EachIsAnAddress note.now (note_addresses note.now) }
 {
     check_length(note)?;
-    let count = check_room(count_lines(note), out.len())?;
-    write_lines(note, out);
-    Ok(count)
+    write_front(NoteAddresses::starting_at(note, 0), out)
 }
 
-fn count_lines(note: &[u8]) -> usize
-    requires { length note.now ≤ 1024 }
-    ensures count { result ≡ length (note_addresses note.now) }
-    ensures in_text_order { InTextOrder 0 (note_addresses note.now) }
-    ensures each_is_an_address { EachIsAnAddress note.now (note_addresses note.now) }
-{
-    let mut count = 0;
-    let mut start = 0;
-    while start < note.len() {
+// The addresses of a note, line by line.
+#[derive(Clone, Copy)]
+struct NoteAddresses<'a> {
+    note: &'a [u8],
+    // Where the line at hand starts, and its addresses that are still to come.
+    start: usize,
+    line: Addresses<'a>,
+    // The line lies within the note.
+    ghost within: { start + length line.bytes.now ≤ length note.now },
+}
+
+impl<'a> NoteAddresses<'a> {
+    // Those from the line at `start` on.
+    fn starting_at(note: &'a [u8], start: usize) -> NoteAddresses<'a>
+        requires { start ≤ length note.now }
+        ensures place { (result.note ≡ note.entry) × (result.start ≡ start) }
+        ensures left { note_addresses_left result.note.now result.start result.line.bytes.now result.line.end ≡ lines_from note.now (length note.now) start }
+    {
         let stop = line_stop(note, start);
-        count += count_addresses(&note[start..stop]);
-        start = stop + 1;
+        NoteAddresses {
+            note,
+            start,
+            line: Addresses::new(&note[start..stop]),
+        }
     }
-    count
 }
 
-fn write_lines(note: &[u8], out: &mut [Span])
-    requires short { length note.now ≤ 1024 }
-    requires room { length (note_addresses note.now) ≤ length out.old }
-    ensures { out.new ≡ overwritten (note_addresses note.now) out.old }
-{
-    let mut count = 0;
-    let mut start = 0;
-    while start < note.len() {
-        let stop = line_stop(note, start);
-        count = write_addresses(&note[start..stop], start, out, count);
-        start = stop + 1;
+impl<'a> Iterator for NoteAddresses<'a> {
+    type Item = Span;
+
+    ghost next_gives = { YieldsFirst (λ it. note_addresses_left it.note.now it.start it.line.bytes.now it.line.end) };
+
+    ghost remaining = { item_count (λ it. note_addresses_left it.note.now it.start it.line.bytes.now it.line.end) };
+
+    fn next(&mut self) -> Option<Span> {
+        loop {
+            if let Some(span) = self.line.next() {
+                return Some(Span {
+                    kind: span.kind,
+                    from: self.start + span.from,
+                    to: self.start + span.to,
+                });
+            }
+            let next = self.start + self.line.bytes.len() + 1;
+            if next > self.note.len() {
+                return None;
+            }
+            *self = NoteAddresses::starting_at(self.note, next);
+        }
     }
 }
 

@@ -1,34 +1,42 @@
-use Rattle.std.proofs.Common.{length, Err, ap, ◌∙◌}
-use Rattle.std.proofs.lemmas.Result.{err_from_is_err_and}
-use Rattle.text.specs.Lent.{room_for}
-use Rattle.rules.specs.Notes.{note_addresses}
+use Rattle.std.proofs.Common.{◌≡◌, ℕ, List, length, ap, arith}
+use Rattle.std.proofs.lemmas.Iterator.Consumers.{YieldsList-from_first}
+use Rattle.std.specs.Iterator.{AlwaysYields, YieldsFirst}
+use Rattle.text.specs.declared.spans.Span.{Span}
+use Rattle.rules.specs.declared.notes.NoteAddresses.{NoteAddresses}
+use Rattle.rules.specs.Notes.{note_addresses, note_addresses_left}
 use Rattle.rules.proofs.LineLaws.{note-in_order, note_are}
-use Rattle.rules.proofs.Writes.{short_kept, long-answer, long_kept, not_long, note-answered, note-filled}
+use Rattle.rules.proofs.Lines.{note-few}
+use Rattle.rules.proofs.Writes.{not_long, note-answered, note-filled}
 use Rattle.rules.proofs.notes.find_note_addresses.Goals as goal
 
-pub returns-in_err-check_length : goal.returns-in_err-check_length
-returns-in_err-check_length c =
-    let s = c.args.note.now in
-    let out = c.args.out.now in
-    let p = err_from_is_err_and c.from_residual.result c.from_residual.ensures.1 in
-    let h = c.in_err-check_length.ensures in
-    record {
-      answer = p.1 ∙ ap Err p.2 ∙ long-answer s out _ h;
-      written = long_kept s out _ h;
-      in_text_order = note-in_order s;
-      each_is_an_address = note_are s;
-    }
+abbrev left : NoteAddresses → List Span
+left it = note_addresses_left it.note.now it.start it.line.bytes.now it.line.end
 
-pub returns-in_err-count : goal.returns-in_err-count
-returns-in_err-count c =
-    let s = c.args.note.now in
-    let out = c.args.out.now in
-    let p = err_from_is_err_and c.from_residual-in_err-count.result c.from_residual-in_err-count.ensures.1 in
-    let le = not_long s _ c.in_ok-check_length.ensures in
-    let h = c.in_err-count.ensures ∙ ap (λ n. room_for n (length out)) c.count_lines.ensures.count in
-    record {
-      answer = note-answered s out _ le (p.1 ∙ ap Err p.2 ∙ h);
-      written = note-filled s out _ le (short_kept (note_addresses s) out _ h);
-      in_text_order = note-in_order s;
-      each_is_an_address = note_are s;
-    }
+gives : (it : NoteAddresses) → (s : List ℕ) → left it ≡ note_addresses s → AlwaysYields (YieldsFirst left) (λ x. x) it (note_addresses s)
+gives it s all = (YieldsList-from_first (λ (x : Span). x) left {s = it} (note_addresses s) all).runs
+
+pub write_front-requires-clause-few : goal.write_front-requires-clause-few
+write_front-requires-clause-few c = omega (arith, note-few c.args.note.now, ap length c.starting_at.ensures.left)
+
+pub write_front-requires-clause-yields : goal.write_front-requires-clause-yields
+write_front-requires-clause-yields c = (_, gives c.starting_at.result c.args.note.now c.starting_at.ensures.left)
+
+pub returns-clause-answer : goal.returns-clause-answer
+returns-clause-answer c =
+    note-answered c.args.note.now c.args.out.now _ (not_long c.args.note.now _ c.in_ok-check_length.ensures) (c.write_front.ensures.answer _ (gives c.starting_at.result c.args.note.now c.starting_at.ensures.left))
+
+pub returns-clause-written : goal.returns-clause-written
+returns-clause-written c =
+    note-filled c.args.note.now c.args.out.now _ (not_long c.args.note.now _ c.in_ok-check_length.ensures) (c.write_front.ensures.written _ (gives c.starting_at.result c.args.note.now c.starting_at.ensures.left))
+
+pub returns-in_err-check_length-clause-in_text_order : goal.returns-in_err-check_length-clause-in_text_order
+returns-in_err-check_length-clause-in_text_order c = note-in_order c.args.note.now
+
+pub returns-in_err-check_length-clause-each_is_an_address : goal.returns-in_err-check_length-clause-each_is_an_address
+returns-in_err-check_length-clause-each_is_an_address c = note_are c.args.note.now
+
+pub returns-clause-in_text_order : goal.returns-clause-in_text_order
+returns-clause-in_text_order c = note-in_order c.args.note.now
+
+pub returns-clause-each_is_an_address : goal.returns-clause-each_is_an_address
+returns-clause-each_is_an_address c = note_are c.args.note.now
