@@ -45,7 +45,7 @@ local_start-within s c k a le e =
     let ne = eqb-false (run_start atext s c k) k q.0 in
     record { low = omega (arith, w.0, p.1); high = omega (arith, w.1, p.1, ne) }
 
-scheme-within : (s : List ℕ) (c a : ℕ) → c ≤ a → (c ≤ (scheme s c a).0) × ((scheme s c a).0 ≤ a)
+pub scheme-within : (s : List ℕ) (c a : ℕ) → c ≤ a → (c ≤ (scheme s c a).0) × ((scheme s c a).0 ≤ a)
 scheme-within s c a le =
     let P : ℕ × SpanKind → Type 0 = λ h. (c ≤ h.0) × (h.0 ≤ a) in
     let here : P (a, Email) = (le, omega arith) in

@@ -4,6 +4,8 @@ pub mod DomainMarks
 pub mod KindsAtPlaces
 pub mod LineLaws
 pub mod Lines
+pub mod Searches
+pub mod Shifts
 pub mod SpanLaws
 pub mod Trails
 pub mod Tried

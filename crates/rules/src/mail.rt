@@ -1,6 +1,6 @@
 // Mail addresses in data: docs/RULES.md has the rules in words.
 ghost use Rattle.std.specs.Prelude.{◌≡◌, ◌+◌, ◌-◌, ◌<◌, ◌≤◌, length};
-ghost use Rattle.rules.specs.InTurn.{found, next, or_else};
+ghost use Rattle.rules.specs.InTurn.{next};
 ghost use Rattle.rules.specs.Mail.{atext, local_start, scheme, inner_dot, in_domain, in_resource, resource_stop, address_end, is_xmpp, address_at};
 
 use text::ascii::{is_letter, is_letter_or_digit};
@@ -20,41 +20,35 @@ pub fn next_address(bytes: &[u8], from: usize) -> Option<Span>
     }
 }
 
-// The address whose `@` stands at `at`, where the one before ends at `min`: if there is one, it is the first from `at` on.
+// The address whose `@` stands at `at`, where the one before ends at `min`.
 fn address_at(bytes: &[u8], min: usize, at: usize) -> Option<Span>
-    requires { (min ≤ at) × (at < length bytes.now) }
-    ensures answer { result ≡ address_at bytes.now min at }
-    ensures first { found (address_at bytes.now min) bytes.now at ≡ or_else result (found (address_at bytes.now min) bytes.now (at + 1)) }
-{
-    read_address(bytes, min, at)
-}
-
-fn read_address(bytes: &[u8], min: usize, at: usize) -> Option<Span>
     requires { (min ≤ at) × (at < length bytes.now) }
     ensures { result ≡ address_at bytes.now min at }
 {
     if bytes[at] != b'@' {
         return None;
     }
-    let local = peek_bytes_atext(bytes, min, at)?;
-    let (from, kind) = peek_protocol(bytes, min, local);
-    let to = peek_bytes_email_domain(bytes, at + 1, is_xmpp(kind))?;
-    Some(Span { kind, from, to })
+    let before = &bytes[min..at];
+    let local = peek_bytes_atext(before)?;
+    let (start, kind) = peek_protocol(&before[..local]);
+    let to = peek_bytes_email_domain(bytes, at + 1, kind)?;
+    Some(Span {
+        kind,
+        from: min + start,
+        to,
+    })
 }
 
-// Where the local part before the `@` at `end` starts, looking back no further than `min`.
-fn peek_bytes_atext(bytes: &[u8], min: usize, end: usize) -> Option<usize>
-    requires { (min ≤ end) × (end ≤ length bytes.now) }
-    ensures { result ≡ local_start bytes.now min end }
+// Where the local part starts with which these bytes end, those before an `@`.
+fn peek_bytes_atext(before: &[u8]) -> Option<usize>
+    ensures { result ≡ local_start before.now 0 (length before.now) }
 {
-    let mut index = end;
-    while index > min && is_atext(bytes[index - 1]) {
-        index -= 1;
-    }
-    if index == end || (index > min && bytes[index - 1] == b'/') {
+    let run = before.iter().rev().take_while(|b| is_atext(**b)).count();
+    let start = before.len() - run;
+    if run == 0 || (start > 0 && before[start - 1] == b'/') {
         None
     } else {
-        Some(index)
+        Some(start)
     }
 }
 
@@ -64,51 +58,45 @@ fn is_atext(b: u8) -> bool
     is_letter_or_digit(b) || matches!(b, b'+' | b'-' | b'.' | b'_')
 }
 
-// Where the address starts whose local part starts at `end`, and its kind.
-fn peek_protocol(bytes: &[u8], min: usize, end: usize) -> (usize, SpanKind)
-    requires { (min ≤ end) × (end ≤ length bytes.now) }
-    ensures { result ≡ scheme bytes.now min end }
+// Where the address starts whose local part follows these bytes, and its kind.
+fn peek_protocol(before: &[u8]) -> (usize, SpanKind)
+    ensures { result ≡ scheme before.now 0 (length before.now) }
 {
-    if end > min && bytes[end - 1] == b':' {
-        let mut index = end - 1;
-        while index > min && is_letter_or_digit(bytes[index - 1]) {
-            index -= 1;
-        }
-        let name = &bytes[index..end - 1];
+    if let [front @ .., b':'] = before {
+        let run = front
+            .iter()
+            .rev()
+            .take_while(|b| is_letter_or_digit(**b))
+            .count();
+        let start = front.len() - run;
+        let name = &front[start..];
         if name.eq_ignore_ascii_case(b"xmpp") {
-            return (index, SpanKind::Xmpp);
+            return (start, SpanKind::Xmpp);
         }
         if name.eq_ignore_ascii_case(b"mailto") {
-            return (index, SpanKind::Mailto);
+            return (start, SpanKind::Mailto);
         }
     }
-    (end, SpanKind::Email)
+    (before.len(), SpanKind::Email)
 }
 
-fn is_xmpp(kind: SpanKind) -> bool
-    ensures { result ≡ is_xmpp kind }
-{
-    matches!(kind, SpanKind::Xmpp)
-}
-
-// Where the address ends whose domain starts at `start`: `None` where the domain makes no address.
-fn peek_bytes_email_domain(bytes: &[u8], start: usize, xmpp: bool) -> Option<usize>
+// Where the address of this kind ends whose domain starts at `start`: `None` where the domain makes no address.
+fn peek_bytes_email_domain(bytes: &[u8], start: usize, kind: SpanKind) -> Option<usize>
     requires { start ≤ length bytes.now }
-    ensures { result ≡ address_end bytes.now xmpp start }
+    ensures { result ≡ address_end bytes.now (is_xmpp kind) start }
 {
-    let mut index = start;
-    let mut dot = false;
-    let stop = loop {
-        if index >= bytes.len() || !in_domain(bytes, index) {
-            break index;
+    let stop = 'domain: {
+        for index in start..bytes.len() {
+            if !in_domain(bytes, index) {
+                break 'domain index;
+            }
         }
-        dot = dot || bytes[index] == b'.';
-        index += 1;
+        bytes.len()
     };
-    if !dot || bytes[start] == b'.' || !is_letter(bytes[stop - 1]) {
+    if !bytes[start..stop].contains(&b'.') || bytes[start] == b'.' || !is_letter(bytes[stop - 1]) {
         return None;
     }
-    if xmpp && stop < bytes.len() && bytes[stop] == b'/' {
+    if kind == SpanKind::Xmpp && stop < bytes.len() && bytes[stop] == b'/' {
         let end = peek_resource(bytes, stop + 1);
         if end > stop + 1 {
             return Some(end);
@@ -129,10 +117,7 @@ fn is_inner_dot(bytes: &[u8], at: usize) -> bool
     requires { at < length bytes.now }
     ensures { result ≡ inner_dot bytes.now at }
 {
-    if at + 1 >= bytes.len() {
-        return false;
-    }
-    bytes[at] == b'.' && is_letter_or_digit(bytes[at + 1])
+    bytes[at] == b'.' && at + 1 < bytes.len() && is_letter_or_digit(bytes[at + 1])
 }
 
 // Where the resource from `start` stops.
@@ -140,13 +125,9 @@ fn peek_resource(bytes: &[u8], start: usize) -> usize
     requires { start ≤ length bytes.now }
     ensures { result ≡ resource_stop bytes.now start }
 {
-    let mut index = start;
-    loop {
-        if index >= bytes.len() || !in_resource(bytes, index) {
-            break index;
-        }
-        index += 1;
-    }
+    (start..bytes.len())
+        .find(|at| !in_resource(bytes, *at))
+        .unwrap_or(bytes.len())
 }
 
 fn in_resource(bytes: &[u8], at: usize) -> bool

@@ -1,9 +1,10 @@
 // The mail addresses of a note, line by line.
 ghost use Rattle.std.specs.Prelude.{◌≡◌, ◌+◌, ◌≤◌, length};
 ghost use Rattle.std.specs.Iterator.{YieldsFirst, item_count};
+ghost use Rattle.std.specs.List.{position_or_len};
 ghost use Rattle.rules.specs.InTurn.{InTextOrder};
 ghost use Rattle.rules.specs.MailLaws.{EachIsAnAddress};
-ghost use Rattle.rules.specs.Notes.{line_ending_byte, line_stop, lines_from, note_addresses, note_addresses_left, note_answer, note_written};
+ghost use Rattle.rules.specs.Notes.{line_ending_byte, lines_from, note_addresses, note_addresses_left, note_answer, note_written};
 
 use crate::addresses::{Addresses, write_front};
 use text::notes::check_length;
@@ -38,7 +39,7 @@ impl<'a> NoteAddresses<'a> {
         ensures place { (result.note ≡ note.entry) × (result.start ≡ start) }
         ensures left { note_addresses_left result.note.now result.start result.line.bytes.now result.line.end ≡ lines_from note.now (length note.now) start }
     {
-        let stop = line_stop(note, start);
+        let stop = start + line_length(&note[start..]);
         NoteAddresses {
             note,
             start,
@@ -72,21 +73,13 @@ impl<'a> Iterator for NoteAddresses<'a> {
     }
 }
 
-// Where the data of the line from `start` on stops.
-fn line_stop(note: &[u8], start: usize) -> usize
-    requires { start ≤ length note.now }
-    ensures stop { result ≡ line_stop note.now start }
-    ensures within { (start ≤ result) × (result ≤ length note.now) }
+// How many bytes lie before the first line ending, or all where there is none.
+fn line_length(bytes: &[u8]) -> usize
+    ensures first { result ≡ position_or_len line_ending_byte bytes.now }
+    ensures within { result ≤ length bytes.now }
 {
-    let mut index = start;
-    while index < note.len() && !is_line_ending_byte(note[index]) {
-        index += 1;
-    }
-    index
-}
-
-fn is_line_ending_byte(b: u8) -> bool
-    ensures { result ≡ line_ending_byte b }
-{
-    matches!(b, b'\r' | b'\n')
+    bytes
+        .iter()
+        .take_while(|b| !matches!(**b, b'\r' | b'\n'))
+        .count()
 }

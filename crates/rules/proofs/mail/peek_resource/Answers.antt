@@ -1,15 +1,14 @@
-use Rattle.std.proofs.Common.{not, sym, ap, ◌∙◌, arith}
-use Rattle.text.proofs.Firsts.{first_more, first_here, first-end}
+use Rattle.std.proofs.Common.{◌≡◌, ℕ, Bool, true, false, not, ◌∙◌, rules}
+use borrow.Author.Tests.{tests}
+use Rattle.std.proofs.lemmas.Iterator.{first_from_Range}
+use Rattle.rules.specs.Mail.{in_resource}
+use Rattle.rules.proofs.Searches.{first_found}
 use Rattle.rules.proofs.mail.peek_resource.Goals as goal
-use Rattle.rules.proofs.mail.peek_resource.Goals.{then-index-bytes-via-then-index-bytes, then-index-bytes-via-else-index-bytes+then-not-in_resource}
-
-pub loop-index-preserved : goal.loop-index-preserved
-loop-index-preserved c = (omega arith, sym (first_more _ _ c.loop-index.index c.if-index-bytes.false (ap not (sym c.if-not-in_resource.ensures))) ∙ c.loop-index.invariant.1)
 
 pub returns : goal.returns
 returns c =
-    elim c.then-index-bytes.branch [
-      | then-index-bytes-via-then-index-bytes w ↦ sym (first-end _ _ _ w.if-index-bytes.true) ∙ c.loop-index.invariant.1
-      | then-index-bytes-via-else-index-bytes+then-not-in_resource w ↦
-          sym (first_here _ _ _ w.if-index-bytes.false (ap not (sym w.in_resource.ensures ∙ w.if-not-in_resource.true))) ∙ c.loop-index.invariant.1
-    ]
+    let s = c.args.bytes.now in
+    let p : ℕ → Bool = λ z. not (in_resource s z) in
+    let found = first_from_Range _ _ _ c.find.result (λ x. p x ≡ true) (λ x. p x ≡ false) c.find.ensures.ran (λ x q k. search (rules, tests)) (λ x q k. search (rules, tests)) in
+    let e = c.unwrap_or.ensures in
+    c.unwrap_or.ensures ∙ first_found p s c.args.start c.find.result c.requires found
