@@ -1,12 +1,16 @@
 -- The first place with a property, as std's searches find it.
 -- Assumes nothing.
-use Rattle.std.proofs.Common.{◌≡◌, ℕ, ◌+◌, ◌-◌, ◌<◌, ◌≤◌, Bool, true, false, not, ◌||◌, List, [], ◌∷◌, length, get_or, take, drop, reverse, Some, None, Option, sym, refl, ap, ◌∙◌, arith}
+use Rattle.std.proofs.Common.{◌≡◌, ℕ, ◌+◌, ◌-◌, ◌<◌, ◌≤◌, Bool, true, false, not, ◌||◌, List, [], ◌∷◌, length, get_or, take, drop, reverse, Some, None, Option, sym, refl, ap, ◌∙◌, arith, ◌&&◌, eqb, codes, ⊎_elim}
 use Rattle.std.proofs.lemmas.List.Sums.{fails_before_first, passes_at_first, prefix_len_passes, prefix_len_stops, suffix_len-le-length}
 use Rattle.std.proofs.lemmas.List.Sums.{prefix_len-le-length}
 use Rattle.std.proofs.lemmas.List.{get_or-reverse, length-reverse, drop-take, drop-drop, take-take, take_all}
 use Rattle.std.specs.List.{list_any, position_or_len, suffix_len}
 use Rattle.std.specs.Option.{MatchOption, unwrap_or}
-use Rattle.text.specs.Bytes.{some, part, first, run_start}
+use Rattle.std.proofs.lemmas.Bool.{cases_lt}
+use Rattle.std.proofs.lemmas.List.{get_or_past}
+use Rattle.text.specs.Ascii.{letter_or_digit}
+use Rattle.rules.specs.Mail.{in_domain, in_resource}
+use Rattle.text.specs.Bytes.{among, some, part, first, run_start}
 use Rattle.text.proofs.Firsts.{first-seek}
 use Rattle.text.proofs.Runs.{part_length, part_at, run_start-is}
 
@@ -113,3 +117,32 @@ front_part s h le =
     ∙ part_part s 0 n h n le (omega arith)
     ∙ ap (λ a. part a (0 + n) s) low
     ∙ ap (λ b. part h b s) high
+
+-- the bytes from a place on
+from_at : (s : List ℕ) (z j : ℕ) → get_or (part z (length s) s) j 0 ≡ get_or s (z + j) 0
+from_at s z j =
+    ⊎_elim
+    (λ lt. part_at z (length s) s j lt)
+    (λ ge.
+    let long = part_length z (length s) s (omega arith) in
+    get_or_past (part z (length s) s) j 0 (omega arith) ∙ sym (get_or_past s (z + j) 0 (omega arith)))
+    (cases_lt j (length s - z))
+
+-- what is said of the first byte of these, and of the one after it, is said of the place
+at_place : {X : Type 0} (f : ℕ → ℕ → X) (s : List ℕ) (z : ℕ) → f (get_or (part z (length s) s) 0 0) (get_or (part z (length s) s) (0 + 1) 0) ≡ f (get_or s z 0) (get_or s (z + 1) 0)
+at_place f s z =
+    let zero : z + 0 ≡ z = omega arith in
+    let one : z + (0 + 1) ≡ z + 1 = omega arith in
+    let a : get_or (part z (length s) s) 0 0 ≡ get_or s z 0 = from_at s z 0 ∙ ap (λ k. get_or s k 0) zero in
+    let b : get_or (part z (length s) s) (0 + 1) 0 ≡ get_or s (z + 1) 0 = from_at s z (0 + 1) ∙ ap (λ k. get_or s k 0) one in
+    λ i. f (a i) (b i)
+
+pub domain_at : (s : List ℕ) (z : ℕ) → in_domain (part z (length s) s) 0 ≡ in_domain s z
+domain_at = at_place (λ b next. letter_or_digit b || among (codes "-_") b || (eqb b 46 && letter_or_digit next))
+
+pub resource_at : (s : List ℕ) (z : ℕ) → in_resource (part z (length s) s) 0 ≡ in_resource s z
+resource_at = at_place (λ b next. letter_or_digit b || eqb b 64 || (eqb b 46 && letter_or_digit next))
+
+-- a search by one property is a search by another that is the same at each place
+pub first_by : (p q : ℕ → Bool) (s : List ℕ) (i : ℕ) → ((z : ℕ) → p z ≡ q z) → first p s i ≡ first q s i
+first_by p q s i e = ap (λ (r : ℕ → Bool). first r s i) (λ j z. e z j)

@@ -10,6 +10,7 @@ use text::{Span, SpanKind};
 pub fn next_address(bytes: &[u8], from: usize) -> Option<Span>
     ensures { result ≡ next (address_at bytes.now) bytes.now from }
 {
+    // Kept: the search over `@` leaves by a label, which is a rule of the project.
     'search: {
         for at in from..bytes.len() {
             if let Some(span) = address_at(bytes, from, at) {
@@ -85,9 +86,10 @@ fn peek_bytes_email_domain(bytes: &[u8], start: usize, kind: SpanKind) -> Option
     requires { start ≤ length bytes.now }
     ensures { result ≡ address_end bytes.now (is_xmpp kind) start }
 {
+    // Kept: the search yields its end by `break` with a value, which is a rule of the project.
     let stop = 'domain: {
         for index in start..bytes.len() {
-            if !in_domain(bytes, index) {
+            if !in_domain(&bytes[index..]) {
                 break 'domain index;
             }
         }
@@ -105,19 +107,22 @@ fn peek_bytes_email_domain(bytes: &[u8], start: usize, kind: SpanKind) -> Option
     Some(stop)
 }
 
-fn in_domain(bytes: &[u8], at: usize) -> bool
-    requires { at < length bytes.now }
-    ensures { result ≡ in_domain bytes.now at }
+// Whether a domain goes on over the first of these bytes.
+fn in_domain(rest: &[u8]) -> bool
+    ensures { result ≡ in_domain rest.now 0 }
 {
-    is_letter_or_digit(bytes[at]) || matches!(bytes[at], b'-' | b'_') || is_inner_dot(bytes, at)
+    match rest {
+        [b'-' | b'_', ..] => true,
+        [b, ..] => is_letter_or_digit(*b) || is_inner_dot(rest),
+        [] => false,
+    }
 }
 
 // A `.` before a letter or digit.
-fn is_inner_dot(bytes: &[u8], at: usize) -> bool
-    requires { at < length bytes.now }
-    ensures { result ≡ inner_dot bytes.now at }
+fn is_inner_dot(rest: &[u8]) -> bool
+    ensures { result ≡ inner_dot rest.now 0 }
 {
-    bytes[at] == b'.' && at + 1 < bytes.len() && is_letter_or_digit(bytes[at + 1])
+    matches!(rest, [b'.', next, ..] if is_letter_or_digit(*next))
 }
 
 // Where the resource from `start` stops.
@@ -126,13 +131,17 @@ fn peek_resource(bytes: &[u8], start: usize) -> usize
     ensures { result ≡ resource_stop bytes.now start }
 {
     (start..bytes.len())
-        .find(|at| !in_resource(bytes, *at))
+        .find(|at| !in_resource(&bytes[*at..]))
         .unwrap_or(bytes.len())
 }
 
-fn in_resource(bytes: &[u8], at: usize) -> bool
-    requires { at < length bytes.now }
-    ensures { result ≡ in_resource bytes.now at }
+// Whether a resource goes on over the first of these bytes.
+fn in_resource(rest: &[u8]) -> bool
+    ensures { result ≡ in_resource rest.now 0 }
 {
-    is_letter_or_digit(bytes[at]) || bytes[at] == b'@' || is_inner_dot(bytes, at)
+    match rest {
+        [b'@', ..] => true,
+        [b, ..] => is_letter_or_digit(*b) || is_inner_dot(rest),
+        [] => false,
+    }
 }

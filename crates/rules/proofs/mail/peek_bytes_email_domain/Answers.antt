@@ -5,14 +5,14 @@ use Rattle.std.proofs.lemmas.List.{get_or_past}
 use Rattle.text.specs.Bytes.{some, part}
 use Rattle.rules.specs.Mail.{domain_stop, is_xmpp}
 use Rattle.text.proofs.Firsts.{first_more, first_here, first-end}
-use Rattle.rules.proofs.Searches.{some_is}
+use Rattle.rules.proofs.Searches.{some_is, domain_at}
 use Rattle.rules.proofs.mail.peek_bytes_email_domain.Goals as goal
 use Rattle.rules.proofs.mail.peek_bytes_email_domain.Goals.{After-contains, After-eq, Joined-then-not-contains, then-loop-index-test+then-not-in_domain, else-loop-index-test, then-not-contains-via-then-not-contains, then-not-contains-via-else-not-contains+then-bytes-start-eq46, then-not-contains-via-else-not-contains+else-bytes-start-eq46+then-not-is_letter, Joined-else-eq, else-eq-via-then-eq+else-stop-bytes, else-eq-via-then-eq+then-stop-bytes+else-bytes-stop-eq47, else-eq-via-else-eq}
 
 stopped : (c : After-contains) → domain_stop c.args.bytes.now c.args.start ≡ c.loop-index-test.stop
 stopped c =
     elim c.loop-index-test.branch [
-      | then-loop-index-test+then-not-in_domain w ↦ sym c.loop-index.invariant ∙ first_here _ _ _ w.loop-index-test.true (ap not (sym w.in_domain.ensures ∙ w.if-not-in_domain.true)) ∙ sym w.stop-is
+      | then-loop-index-test+then-not-in_domain w ↦ sym c.loop-index.invariant ∙ first_here _ _ _ w.loop-index-test.true (ap not (sym (domain_at c.args.bytes.now c.loop-index.index) ∙ sym w.in_domain.ensures ∙ w.if-not-in_domain.true)) ∙ sym w.stop-is
       | else-loop-index-test w ↦ sym c.loop-index.invariant ∙ first-end _ _ _ w.loop-index-test.false ∙ omega (arith, w.stop-is, w.loop-index-test.false, c.loop-index.auto.index-end)
     ]
 
@@ -21,7 +21,7 @@ dotted c = some_is (λ b. eqb b 46) (part c.args.start c.loop-index-test.stop c.
 
 pub loop-index-preserved : goal.loop-index-preserved
 loop-index-preserved c =
-    sym (first_more _ _ c.loop-index.index c.loop-index-test.true (ap not (sym c.if-not-in_domain.ensures))) ∙ c.loop-index.invariant
+    sym (first_more _ _ c.loop-index.index c.loop-index-test.true (ap not (sym (domain_at c.args.bytes.now c.loop-index.index) ∙ sym c.if-not-in_domain.ensures))) ∙ c.loop-index.invariant
 
 pub returns-then-not-contains : goal.returns-then-not-contains
 returns-then-not-contains c =
