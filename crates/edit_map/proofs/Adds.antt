@@ -1,8 +1,8 @@
 -- An addition to the entries and the store is one to the edits.
 -- Assumes nothing.
-use Rattle.std.proofs.Common.{◌≡◌, ℕ, suc, ◌+◌, ◌<◌, ◌≤◌, true, eqb, ltb, List, [], ◌∷◌, ◌++◌, length, get_or, take, drop, set, sym, refl, ap, ◌∙◌, arith}
+use Rattle.std.proofs.Common.{◌≡◌, ℕ, suc, ◌+◌, ◌<◌, ◌≤◌, true, eqb, ltb, List, [], ◌∷◌, ◌++◌, length, get_or, take, drop, set, sym, refl, ap, ◌∙◌, subst, arith}
 use lib.Seq.{take-append_seam, drop-append_seam}
-use Rattle.std.specs.List.{insert}
+use Rattle.std.specs.List.{insert, sum_by}
 use Rattle.std.proofs.lemmas.Bool.{lt-ltb, le-ltb, eq-eqb, ne_eqb, cond-true, cond-false}
 use Rattle.std.proofs.lemmas.List.{length-drop, take-append-le, drop-append-le, take-append-drop, length-take-le, drop_at}
 use Rattle.edit_map.specs.declared.entries.Entry.{Entry}
@@ -10,7 +10,7 @@ use Rattle.edit_map.specs.declared.entries.Side.{Side}
 use Rattle.edit_map.specs.declared.entries.Side.TheVariants.{Front, Back}
 use Rattle.edit_map.specs.Entries.{entry, total, edits, well_formed, offset, spliced, At, NoneAt}
 use Rattle.edit_map.specs.Edits.{Edit, edit, joined, put, count_at}
-use Rattle.edit_map.proofs.Ranks.{Here, here, past, Gone, end, before, beyond, here_within, gone_within, total-set, total_inserted, here_at, here_old, gone_at, wf_set, wf_inserted}
+use Rattle.edit_map.proofs.Ranks.{Here, here, past, Gone, end, before, beyond, here_within, gone_within, here_place, sizes_before, total-set, total_inserted, here_at, here_read, gone_at, wf_set, wf_inserted}
 use Rattle.edit_map.proofs.Splices.{behind_take, behind_drop, seam-take, seam-drop, front_take, front_drop, length-spliced}
 
 module _ {A : Type 0} (side : Side) (p n : ℕ) (xs : List A) where
@@ -149,25 +149,28 @@ module _ {A : Type 0} (side : Side) (n : ℕ) (xs : List A) (es : List Entry) (i
       ap (drop (kept + length xs)) is
       ∙ drop_at (spliced (take kept s) at xs) (drop (kept + length xs) s) (kept + length xs) (length-spliced (take kept s) at xs (omega arith) ∙ omega arith)
 
-  pub grown_here : (old : Entry) → At old.place es i → old ≡ get_or es i (entry 0 0 0) → old.count + n ≤ 4096 → at ≡ total (take i es) + offset side old.size → s' ≡ spliced (take kept s) at xs ++ drop (kept + length xs) s → Grown side old.place n xs es (set es i (entry old.place (old.count + n) (old.size + length xs))) s s' kept
-  grown_here old w e small there is =
-      let h = here_old es i old w e in
+  pub grown_here : {p : ℕ} {old : Entry} → Here p es i old → count_at p (edits es s) + n ≤ 4096 → at ≡ sum_by (λ e. e.size) (take i es) + offset side old.size → s' ≡ spliced (take kept s) at xs ++ drop (kept + length xs) s → Grown side p n xs es (set es i (entry old.place (old.count + n) (old.size + length xs))) s s' kept
+  grown_here {p} {old} h small there is =
       let inside = here_within h in
       let in_size = offset-within side old.size in
-      record {
-        edits = ap (edits (set es i (entry old.place (old.count + n) (old.size + length xs)))) (is ∙ (λ k. spliced (take (tally k) s) (there k) xs ++ drop (kept + length xs) s))
-            ∙ widened side old.place n xs s (drop (kept + length xs) s) h (omega arith);
+      let count = count_here s h in
+      let first = sizes_before es i in
+      let from : at ≡ total (take i es) + offset side old.size = omega (arith, first.0) in
+      subst (λ q. Grown side p n xs es (set es i (entry q (old.count + n) (old.size + length xs))) s s' kept) (sym (here_place h)) (record {
+        edits = ap (edits (set es i (entry p (old.count + n) (old.size + length xs)))) (is ∙ (λ k. spliced (take (tally k) s) (from k) xs ++ drop (kept + length xs) s))
+            ∙ widened side p n xs s (drop (kept + length xs) s) h (omega arith);
         rest = past-kept (omega arith) is;
-        ordered = wf_set 0 (old.count + n) (old.size + length xs) h wf small;
+        ordered = wf_set 0 (old.count + n) (old.size + length xs) h wf (omega arith);
         tally = total-set (old.count + n) (length xs) h ∙ omega arith;
-      }
+      })
 
-  pub grown_new : (p : ℕ) → NoneAt p es i → p ≤ 4096 → n ≤ 4096 → at ≡ total (take i es) → s' ≡ spliced (take kept s) at xs ++ drop (kept + length xs) s → Grown side p n xs es (insert es i (entry p n (length xs))) s s' kept
+  pub grown_new : (p : ℕ) → NoneAt p es i → p ≤ 4096 → n ≤ 4096 → at ≡ sum_by (λ e. e.size) (take i es) → s' ≡ spliced (take kept s) at xs ++ drop (kept + length xs) s → Grown side p n xs es (insert es i (entry p n (length xs))) s s' kept
   grown_new p w low small there is =
       let h = gone_at p es i w in
-      let inside = gone_within h in
+      let first = sizes_before es i in
+      let from : at ≡ total (take i es) = omega (arith, first.0) in
       record {
-        edits = ap (edits (insert es i (entry p n (length xs)))) (is ∙ (λ k. spliced (take (tally k) s) (there k) xs ++ drop (kept + length xs) s))
+        edits = ap (edits (insert es i (entry p n (length xs)))) (is ∙ (λ k. spliced (take (tally k) s) (from k) xs ++ drop (kept + length xs) s))
             ∙ entered side p n xs s (drop (kept + length xs) s) h (omega arith);
         rest = past-kept (omega arith) is;
         ordered = wf_inserted 0 n (length xs) h wf (omega arith) low small;
@@ -178,11 +181,8 @@ module _ {A : Type 0} (side : Side) (n : ℕ) (xs : List A) (es : List Entry) (i
 
 module _ {A : Type 0} (p : ℕ) (es : List Entry) (i : ℕ) (s : List A) where
   module _ (w : At p es i) where
-    pub place_old : (old : Entry) → old ≡ get_or es i (entry 0 0 0) → old.place ≡ p
-    place_old old e = ap (λ (x : Entry). x.place) e ∙ w.2
-
-    pub count_old : (old : Entry) → old ≡ get_or es i (entry 0 0 0) → count_at p (edits es s) ≡ old.count
-    count_old old e = count_here s (here_at p es i w) ∙ ap (λ (x : Entry). x.count) (sym e)
+    pub count_old : (old : Entry) → old ≡ get_or es i old → count_at p (edits es s) ≡ old.count
+    count_old old is = count_here s (here_read es i old w is)
 
     pub places_old : (side : Side) (n : ℕ) (xs : List A) → length (put side p n xs (edits es s)) ≡ length es
     places_old side n xs = length_here side p n xs s (here_at p es i w)

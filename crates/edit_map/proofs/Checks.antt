@@ -1,12 +1,15 @@
 -- The tests before edits are made: what they ask of the entries, and how the loops that ask it step.
 -- Assumes nothing.
-use Rattle.std.proofs.Common.{◌≡◌, ℕ, suc, ◌+◌, ◌<◌, ◌≤◌, false, cond, ltb, List, [], ◌∷◌, length, get_or, drop, Ok, Err, Result, sym, refl, ap, ◌∙◌, ⊎_elim, arith}
+use Rattle.std.proofs.Common.{◌≡◌, ℕ, suc, ◌+◌, ◌<◌, ◌≤◌, false, cond, ltb, List, [], ◌∷◌, length, get_or, drop, Ok, Err, Result, Some, None, Option, sym, refl, ap, ◌∙◌, ⊎_elim, arith}
 use Rattle.std.proofs.lemmas.List.{at_drop_more, at_drop_all}
-use Rattle.std.proofs.lemmas.Bool.{cond-true, cond-false, lt-ltb, le-ltb, ltb-false, cases_Bool}
+use Rattle.std.proofs.lemmas.Bool.{cond-true, cond-false, lt-ltb, le-ltb, ltb-true, ltb-false, cases_Bool}
+use Rattle.std.specs.List.{sum_by, position, position_or_len}
+use Rattle.std.proofs.lemmas.List.Recursion.{is_position_or_len}
+use Rattle.std.proofs.lemmas.List.Sums.{sum_by-cons}
 use Rattle.text.specs.declared.refusals.Fault.{Fault}
 use Rattle.text.specs.declared.refusals.Fault.TheVariants.{EditOutOfRange, EditInsideRemoval, NoRoomForEdit}
 use Rattle.edit_map.specs.declared.entries.Entry.{Entry}
-use Rattle.edit_map.specs.Edits.{Edit, past_end, inside_removal, consume_check}
+use Rattle.edit_map.specs.Edits.{Edit, past_end, inside_removal, IsRank, consume_check}
 use Rattle.edit_map.specs.Entries.{entry, edits, bare}
 use Rattle.edit_map.specs.Laws.{InOrder, removed}
 use Rattle.edit_map.proofs.Adds.{length-edits}
@@ -56,29 +59,30 @@ module _ (es : List Entry) (i : ℕ) (lt : i < length es) where
   abbrev here : Entry
   here = get_or es i (entry 0 0 0)
 
-  pub past_here : (len : ℕ) → len < (get_or es i (entry 0 0 0)).place + (get_or es i (entry 0 0 0)).count → past_end len (bare (drop i es)) ≡ 0
-  past_here len h = at_drop_more (λ l. past_end len (bare l)) es i (entry 0 0 0) lt ∙ cond-true (ltb len (here.place + here.count)) 0 _ (lt-ltb len (here.place + here.count) h)
-
-  pub past_more : (len : ℕ) → (get_or es i (entry 0 0 0)).place + (get_or es i (entry 0 0 0)).count ≤ len → past_end len (bare (drop i es)) ≡ suc (past_end len (bare (drop (i + 1) es)))
-  past_more len h = at_drop_more (λ l. past_end len (bare l)) es i (entry 0 0 0) lt ∙ cond-false (ltb len (here.place + here.count)) 0 _ (le-ltb len (here.place + here.count) h)
-
   pub inside_here : (from : ℕ) → (get_or es i (entry 0 0 0)).place < from → inside_removal from (bare (drop i es)) ≡ 0
   inside_here from h = at_drop_more (λ l. inside_removal from (bare l)) es i (entry 0 0 0) lt ∙ cond-true (ltb here.place from) 0 _ (lt-ltb here.place from h)
 
   pub inside-more : (from : ℕ) → from ≤ (get_or es i (entry 0 0 0)).place → inside_removal from (bare (drop i es)) ≡ suc (inside_removal ((get_or es i (entry 0 0 0)).place + (get_or es i (entry 0 0 0)).count) (bare (drop (i + 1) es)))
   inside-more from h = at_drop_more (λ l. inside_removal from (bare l)) es i (entry 0 0 0) lt ∙ cond-false (ltb here.place from) 0 _ (le-ltb here.place from h)
 
-  pub removed-more : removed (bare (drop i es)) ≡ (get_or es i (entry 0 0 0)).count + removed (bare (drop (i + 1) es))
-  removed-more = at_drop_more (λ l. removed (bare l)) es i (entry 0 0 0) lt
-
-pub past_all : (es : List Entry) (len i : ℕ) → length es ≤ i → past_end len (bare (drop i es)) ≡ 0
-past_all es len i h = at_drop_all (λ l. past_end len (bare l)) es i h
-
 pub inside-all : (es : List Entry) (from i : ℕ) → length es ≤ i → inside_removal from (bare (drop i es)) ≡ 0
 inside-all es from i h = at_drop_all (λ l. inside_removal from (bare l)) es i h
 
-pub removed-all : (es : List Entry) (i : ℕ) → length es ≤ i → removed (bare (drop i es)) ≡ 0
-removed-all es i h = at_drop_all (λ l. removed (bare l)) es i h
+pub removed_sum : (es : List Entry) → removed (bare es) ≡ sum_by (λ e. e.count) es
+removed_sum [] = refl
+removed_sum (e ∷ es) = omega (arith, removed_sum es, sum_by-cons (λ (e : Entry). e.count) e es)
+
+-- ---- the first edit past the end, as the library finds it
+
+past_position : (len : ℕ) (es : List Entry) → past_end len (bare es) ≡ position_or_len (λ e. ltb len (e.place + e.count)) es
+past_position len es = is_position_or_len (λ es. past_end len (bare es)) (λ e. ltb len (e.place + e.count)) refl (λ x xs. let more : suc (past_end len (bare xs)) ≡ 1 + past_end len (bare xs) = omega arith in ap (λ n. cond (ltb len (x.place + x.count)) 0 n) more) es
+
+pub past_found : (len : ℕ) (es : List Entry) (r : Option ℕ) → r ≡ position (λ e. ltb len (e.place + e.count)) es → IsRank r (past_end len (bare es)) (length es)
+past_found len es r is = rw past_position (found (position_or_len (λ e. ltb len (e.place + e.count)) es) r is)
+  where
+    found : (n : ℕ) (r : Option ℕ) → r ≡ cond (ltb n (length es)) (Some n) None → IsRank r n (length es)
+    found n None is = ⊎_elim (λ t. let e = is ∙ cond-true (ltb n (length es)) (Some n) None t in let z : ◌≡◌ {A = ℕ} 0 1 = cc e in absurd (omega arith)) (λ f. ltb-false n (length es) f) (cases_Bool (ltb n (length es)))
+    found n (Some k) is = ⊎_elim (λ t. let e = is ∙ cond-true (ltb n (length es)) (Some n) None t in let same : k ≡ n = cc e in (same, omega (arith, ltb-true n (length es) t))) (λ f. let e = is ∙ cond-false (ltb n (length es)) (Some n) None f in let z : ◌≡◌ {A = ℕ} 0 1 = cc e in absurd (omega arith)) (cases_Bool (ltb n (length es)))
 
 -- ---- which test fails
 

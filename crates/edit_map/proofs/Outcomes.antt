@@ -1,6 +1,6 @@
 -- Which way an addition ends.
 -- Assumes nothing.
-use Rattle.std.proofs.Common.{◌≡◌, ℕ, suc, ◌+◌, ◌<◌, ◌≤◌, true, false, ◌||◌, eqb, ltb, ◌⊎◌, List, [], ◌∷◌, length, drop, Ok, Err, sym, refl, ◌∙◌, subst, ⊎_elim, arith}
+use Rattle.std.proofs.Common.{◌≡◌, ℕ, suc, ◌+◌, ◌<◌, ◌≤◌, true, false, ◌||◌, eqb, ltb, ◌⊎◌, List, [], ◌∷◌, length, drop, Ok, Err, sym, refl, ap, ◌∙◌, subst, ⊎_elim, arith}
 use Rattle.std.proofs.lemmas.Bool.{lt-ltb, le-ltb, or_from, or_left, or_right, both_ways, cond-true, cond-false, and_parts, eqb-true}
 use Rattle.text.specs.declared.refusals.Fault.{Fault}
 use Rattle.text.specs.declared.refusals.Fault.TheVariants.{EditOutOfRange, NoRoomForEdit}
@@ -10,8 +10,9 @@ use Rattle.edit_map.specs.declared.map.EditMap.{EditMap}
 use Rattle.edit_map.specs.Edits.{Edit, put, idle, count_at, add_answer}
 use Rattle.edit_map.specs.Entries.{edits, well_formed}
 use Rattle.edit_map.specs.Laws.{Rising}
-use Rattle.edit_map.specs.View.{entries_of, kept_count, edits_of, Added}
+use Rattle.edit_map.specs.View.{entries_of, kept_count, edits_of, Added, PutIn}
 use Rattle.edit_map.proofs.Ranks.{wf_parts}
+use Rattle.edit_map.proofs.Adds.{Grown}
 use Rattle.edit_map.proofs.OrderFree.{order_free}
 
 module _ {A : Type 0} (side : Side) (room kept : ℕ) (es : List (Edit A)) (p n : ℕ) (xs : List A) where
@@ -74,14 +75,21 @@ module _ {A : Type 0} (side : Side) (p n : ℕ) (xs : List A) (m : EditMap) (s :
     pub no_room : idle n xs ≡ false → (1024 < length (put side p n xs (edits_of m s))) ⊎ (length s < kept_count m + length xs) → Added side p n xs m m s s (Err NoRoomForEdit)
     no_room f why = turned_away NoRoomForEdit (refused_15 side (length s) (kept_count m) (edits_of m s) p n xs low small f why)
 
-    pub done : (m' : EditMap) (s' : List A) → idle n xs ≡ false → length (put side p n xs (edits_of m s)) ≤ 1024 → kept_count m + length xs ≤ length s → edits_of m' s' ≡ put side p n xs (edits_of m s) → kept_count m' ≡ kept_count m + length xs → drop (kept_count m + length xs) s' ≡ drop (kept_count m + length xs) s → Added side p n xs m m' s s' (Ok tt)
-    done m' s' f few fits put_in grown stays = record {
+    pub done : (m' : EditMap) (s' : List A) → idle n xs ≡ false → length (put side p n xs (edits_of m s)) ≤ 1024 → kept_count m + length xs ≤ length s → PutIn side p n xs m m' s s' → Added side p n xs m m' s s' (Ok tt)
+    done m' s' f few fits w = record {
       answer = sym (accepted side (length s) (kept_count m) (edits_of m s) p n xs low small f few fits);
-      edits = put_in ∙ sym (cond-false (idle n xs) _ _ f);
-      kept = grown;
+      edits = w.edits ∙ sym (cond-false (idle n xs) _ _ f);
+      kept = w.kept;
       rising = rising m' s';
-      rest = subst (λ (k : ℕ). drop k s' ≡ drop k s) (sym grown) stays;
+      rest = subst (λ (k : ℕ). drop k s' ≡ drop k s) (sym w.kept) w.rest;
       refused = tt;
       no_effect = λ t. absurd (both_ways (idle n xs) f t);
       order_free = order_free side p n xs (edits_of m s);
     }
+
+  pub put_in : (m' : EditMap) (s' : List A) → Grown side p n xs (entries_of m) (entries_of m') s s' m.kept → PutIn side p n xs m m' s s'
+  put_in m' s' g = record {
+    edits = g.edits;
+    kept = g.tally ∙ ap (λ k. k + length xs) m.tally;
+    rest = subst (λ (k : ℕ). drop (k + length xs) s' ≡ drop (k + length xs) s) m.tally g.rest;
+  }

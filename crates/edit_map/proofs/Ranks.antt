@@ -1,8 +1,15 @@
 -- Ranks among the entries of a map: which entry stands at a place, and what a change there leaves in order.
 -- Assumes nothing.
-use Rattle.std.proofs.Common.{◌≡◌, ℕ, zero, suc, ◌+◌, ◌<◌, ◌≤◌, true, false, ◌&&◌, ltb, leb, List, [], ◌∷◌, length, get_or, take, set, sym, refl, ap, ◌∙◌, subst, ⊎_elim, add-one, arith}
-use Rattle.std.specs.List.{insert}
+use Rattle.std.proofs.Common.{◌≡◌, ℕ, zero, suc, ◌+◌, ◌<◌, ◌≤◌, true, false, ◌&&◌, ltb, leb, List, [], ◌∷◌, length, get_or, take, set, sym, refl, ◌∙◌, subst, ⊎_elim, MatchResult, Ok, Err, Result, arith}
+use Rattle.std.specs.List.{All, insert, sum_by}
+use Rattle.std.specs.List.Sorted.{IsSearchInRange, IsBinarySearchResult, IsNonDecreasingBy}
+use Rattle.std.specs.Ordering.{nat_cmp, ordering_index}
 use Rattle.std.proofs.lemmas.Bool.{and_from, and_parts, leb-true, le-leb, ltb-true, ltb-false, lt-ltb, le-ltb, cond-true, cond-false, cases_Bool}
+use Rattle.std.proofs.lemmas.Bool.Decides.{nat_tests}
+use Rattle.std.proofs.lemmas.Cmp.{ranked}
+use Rattle.std.proofs.lemmas.List.{get_or_default}
+use Rattle.std.proofs.lemmas.List.Sorted.{IsNonDecreasingBy-from_default}
+use Rattle.std.proofs.lemmas.List.Sums.{sum_by-cons}
 use Rattle.edit_map.specs.declared.entries.Entry.{Entry}
 use Rattle.edit_map.specs.Entries.{entry, total, well_formed, rank_of, At, NoneAt}
 
@@ -59,8 +66,13 @@ lacks p (e ∷ es) =
 pub here_at : (p : ℕ) (es : List Entry) (i : ℕ) → At p es i → Here p es i (get_or es i (entry 0 0 0))
 here_at p es i w = subst (Stands p es) (sym w.0) (stands p es) w.1 w.2
 
-pub here_old : (es : List Entry) (i : ℕ) (old : Entry) → At old.place es i → old ≡ get_or es i (entry 0 0 0) → Here old.place es i old
-here_old es i old w e = subst (Here old.place es i) (sym e) (here_at old.place es i w)
+-- an entry that was read there
+pub here_read : {p : ℕ} (es : List Entry) (i : ℕ) (old : Entry) → At p es i → old ≡ get_or es i old → Here p es i old
+here_read {p} es i old w is = subst (Here p es i) (sym (is ∙ get_or_default es i old (entry 0 0 0) w.1)) (here_at p es i w)
+
+pub here_place : {p : ℕ} {es : List Entry} {i : ℕ} {r : Entry} → Here p es i r → r.place ≡ p
+here_place (here is) = is
+here_place (past lt w) = here_place w
 
 pub gone_at : (p : ℕ) (es : List Entry) (i : ℕ) → NoneAt p es i → Gone p es i
 gone_at p es i w = subst (Lacks p es) (sym w.0) (lacks p es) w.1
@@ -68,7 +80,7 @@ gone_at p es i w = subst (Lacks p es) (sym w.0) (lacks p es) w.1
 pub none_within : (p : ℕ) (es : List Entry) (i : ℕ) → NoneAt p es i → i ≤ length es
 none_within p es i w = omega (arith, w.0, rank_within p es)
 
--- ---- halving
+-- ---- what holds of each entry
 
 pub wf_parts : (low : ℕ) (e : Entry) (es : List Entry) → well_formed low (e ∷ es) ≡ true → (low ≤ e.place) × (e.place ≤ 4096) × (e.count ≤ 4096) × (well_formed (suc e.place) es ≡ true)
 wf_parts low e es h =
@@ -83,7 +95,6 @@ wf_from low e es a b c d =
     (and_from (leb e.place 4096) (leb e.count 4096 && well_formed (suc e.place) es) (le-leb e.place 4096 b)
     (and_from (leb e.count 4096) (well_formed (suc e.place) es) (le-leb e.count 4096 c) d))
 
--- what holds of each entry
 pub wf_at : (low : ℕ) (es : List Entry) (m : ℕ) → well_formed low es ≡ true → m < length es → (low ≤ (get_or es m (entry 0 0 0)).place) × ((get_or es m (entry 0 0 0)).place ≤ 4096) × ((get_or es m (entry 0 0 0)).count ≤ 4096)
 wf_at low [] m h lt = absurd (omega arith)
 wf_at low (e ∷ es) zero h lt = let w = wf_parts low e es h in (w.0, w.1, w.2)
@@ -92,21 +103,57 @@ wf_at low (e ∷ es) (suc m) h lt =
     let v = wf_at (suc e.place) es m w.3 (omega arith) in
     (omega (arith, w.0, v.0), v.1, v.2)
 
-pub rank_after : (p low : ℕ) (es : List Entry) (m : ℕ) → well_formed low es ≡ true → m < length es → (get_or es m (entry 0 0 0)).place < p → m + 1 ≤ rank_of p es
-rank_after p low [] m h lt less = absurd (omega arith)
-rank_after p low (e ∷ es) zero h lt less = omega (arith, rank_past p e es (lt-ltb e.place p less))
-rank_after p low (e ∷ es) (suc m) h lt less =
+pub ends_fit : (es : List Entry) → well_formed 0 es ≡ true → All (λ e. e.place + e.count < 18446744073709551616) es
+ends_fit es wf = λ k d lt.
+    let w = wf_at 0 es k wf lt in
+    subst (λ (e : Entry). e.place + e.count < 18446744073709551616) (get_or_default es k (entry 0 0 0) d lt) (omega (arith, w.1, w.2))
+
+pub places_rise : (low : ℕ) (es : List Entry) (i j : ℕ) → well_formed low es ≡ true → i ≤ j → j < length es → (get_or es i (entry 0 0 0)).place ≤ (get_or es j (entry 0 0 0)).place
+places_rise low [] i j h le lt = absurd (omega arith)
+places_rise low (e ∷ es) zero zero h le lt = omega arith
+places_rise low (e ∷ es) zero (suc j) h le lt = let w = wf_parts low e es h in omega (arith, (wf_at (suc e.place) es j w.3 (omega arith)).0)
+places_rise low (e ∷ es) (suc i) zero h le lt = absurd (omega arith)
+places_rise low (e ∷ es) (suc i) (suc j) h le lt = let w = wf_parts low e es h in places_rise (suc e.place) es i j w.3 (omega arith) (omega arith)
+
+-- ---- by a binary search
+
+rank_found : (p low : ℕ) (es : List Entry) (m : ℕ) → well_formed low es ≡ true → m < length es → (get_or es m (entry 0 0 0)).place ≡ p → m ≡ rank_of p es
+rank_found p low [] m h lt is = absurd (omega arith)
+rank_found p low (e ∷ es) zero h lt is = omega (arith, rank_stop p e es (le-ltb e.place p (omega arith)))
+rank_found p low (e ∷ es) (suc m) h lt is =
     let w = wf_parts low e es h in
     let v = wf_at (suc e.place) es m w.3 (omega arith) in
-    let i = rank_after p (suc e.place) es m w.3 (omega arith) less in
+    let i = rank_found p (suc e.place) es m w.3 (omega arith) is in
     omega (arith, rank_past p e es (lt-ltb e.place p (omega (arith, v.0))))
 
-pub rank_upto : (p : ℕ) (es : List Entry) (m : ℕ) → m < length es → p ≤ (get_or es m (entry 0 0 0)).place → rank_of p es ≤ m
-rank_upto p [] m lt le = absurd (omega arith)
-rank_upto p (e ∷ es) zero lt le = omega (arith, rank_stop p e es (le-ltb e.place p le))
-rank_upto p (e ∷ es) (suc m) lt le =
-    let i = rank_upto p es m (omega arith) le in
-    ⊎_elim (λ t. omega (arith, rank_past p e es t)) (λ f. omega (arith, rank_stop p e es f)) (cases_Bool (ltb e.place p))
+rank_between : (p : ℕ) (es : List Entry) (m : ℕ) → m ≤ length es → ((k : ℕ) → k < m → (get_or es k (entry 0 0 0)).place < p) → ((k : ℕ) → m ≤ k → k < length es → p < (get_or es k (entry 0 0 0)).place) → m ≡ rank_of p es
+rank_between p [] m le below above = omega arith
+rank_between p (e ∷ es) zero le below above =
+    let first : p < e.place = above 0 (omega arith) (omega arith) in
+    omega (arith, rank_stop p e es (le-ltb e.place p (omega arith)))
+rank_between p (e ∷ es) (suc m) le below above =
+    let i = rank_between p es m (omega arith) (λ k lt. below (suc k) (omega arith)) (λ k from lt. above (suc k) (omega arith) (omega arith)) in
+    omega (arith, rank_past p e es (lt-ltb e.place p (below 0 (omega arith))))
+
+module _ (es : List Entry) (wf : well_formed 0 es ≡ true) (p : ℕ) where
+  -- the comparisons with p rise along the entries, as a binary search asks
+  comparisons_rise : IsNonDecreasingBy (λ e. ordering_index (nat_cmp e.place p)) es
+  comparisons_rise = IsNonDecreasingBy-from_default (λ e. ordering_index (nat_cmp e.place p)) es (entry 0 0 0) (λ i j le lt.
+      let rise = places_rise 0 es i j wf le lt in
+      grind (arith, nat_tests))
+
+  pub searched : (r : Result ℕ ℕ) → IsSearchInRange r (length es) → IsBinarySearchResult (λ e. nat_cmp e.place p) es r → MatchResult r (At p es) (NoneAt p es)
+  searched (Ok i) in_range equal =
+      let is = ranked _ p _ (sym (equal (entry 0 0 0))) in
+      (rank_found p 0 es i wf in_range is, in_range, is)
+  searched (Err i) in_range parted =
+      let parts = parted comparisons_rise in
+      let above = λ (k : ℕ) (from : i ≤ k) (lt : k < length es). ranked _ p _ (sym (parts.1 k (entry 0 0 0) from lt)) in
+      (rank_between p es i in_range (λ k lt. ranked _ p _ (sym (parts.0 k (entry 0 0 0) (omega arith) lt))) above, λ lt same. omega (arith, above i (omega arith) lt))
+
+pub here_small : {p : ℕ} {es : List Entry} {i : ℕ} {r : Entry} (low : ℕ) → Here p es i r → well_formed low es ≡ true → r.count ≤ 4096
+here_small low (here {r} {rs} is) h = (wf_parts low r rs h).2
+here_small low (past {q} {r} {rs} lt w) h = here_small (suc q.place) w (wf_parts low q rs h).3
 
 -- ---- what a change leaves in order
 
@@ -129,18 +176,18 @@ wf_inserted {p} low c k (beyond {q} {rs} {i} lt g) h a b le =
 
 -- ---- how many elements are added before a rank
 
-pub total-more : (es : List Entry) (i : ℕ) (d : Entry) → i < length es → total (take (i + 1) es) ≡ total (take i es) + (get_or es i d).size
-total-more es i d lt = ap (λ j. total (take j es)) (add-one i) ∙ go es i d lt
-  where
-    go : (es : List Entry) (i : ℕ) (d : Entry) → i < length es → total (take (suc i) es) ≡ total (take i es) + (get_or es i d).size
-    go [] i d lt = absurd (omega arith)
-    go (r ∷ rs) zero d lt = omega arith
-    go (r ∷ rs) (suc i) d lt = let h = go rs i d (omega arith) in omega arith
+-- as the library sums
+pub total_sum : (es : List Entry) → total es ≡ sum_by (λ e. e.size) es
+total_sum [] = refl
+total_sum (e ∷ es) = omega (arith, total_sum es, sum_by-cons (λ (e : Entry). e.size) e es)
 
 pub total-take : (es : List Entry) (i : ℕ) → total (take i es) ≤ total es
 total-take es zero = omega arith
 total-take [] (suc i) = omega arith
 total-take (r ∷ rs) (suc i) = let h = total-take rs i in omega arith
+
+pub sizes_before : (es : List Entry) (i : ℕ) → (sum_by (λ e. e.size) (take i es) ≡ total (take i es)) × (total (take i es) ≤ total es)
+sizes_before es i = (sym (total_sum (take i es)), total-take es i)
 
 pub here_within : {p : ℕ} {es : List Entry} {i : ℕ} {r : Entry} → Here p es i r → total (take i es) + r.size ≤ total es
 here_within (here is) = omega arith

@@ -1,6 +1,6 @@
 -- Batches of edits of a list: how one more joins a batch, what the list becomes, and who is turned away.
 -- Assumes nothing.
-use Rattle.std.specs.Prelude.{ℕ, suc, ◌+◌, ◌-◌, min, Bool, cond, ◌&&◌, ◌||◌, List, [], ◌∷◌, ◌++◌, length, take, drop, Ok, Err, Result, ◌==◌, nat_lt}
+use Rattle.std.specs.Prelude.{ℕ, suc, ◌≡◌, ◌+◌, ◌-◌, ◌<◌, ◌≤◌, min, Bool, cond, ◌&&◌, ◌||◌, List, [], ◌∷◌, ◌++◌, length, take, drop, Ok, Err, Result, Option, MatchOption, ◌==◌, nat_lt}
 use Rattle.text.specs.declared.refusals.Fault.{Fault}
 use Rattle.text.specs.declared.refusals.Fault.TheVariants.{EditOutOfRange, EditInsideRemoval, NoRoomForEdit, BufferTooShort}
 use Rattle.text.specs.Lent.{fits}
@@ -80,6 +80,10 @@ past_end len (e ∷ es) = cond (nat_lt len (e.place + e.count)) 0 (suc (past_end
 abbrev pub inside_removal : {A : Type 0} → ℕ → List (Edit A) → ℕ
 inside_removal from [] = 0
 inside_removal from (e ∷ es) = cond (nat_lt e.place from) 0 (suc (inside_removal (e.place + e.count) es))
+
+-- the rank, as an edit's: `None` where it is that behind the last of n edits
+abbrev pub IsRank : Option ℕ → ℕ → ℕ → Type 0
+IsRank found rank n = MatchOption found (n ≤ rank) (λ k. (k ≡ rank) × (k < n))
 
 -- how many elements a buffer must have, as 64 bits can tell it (more are needed only where elements take no memory)
 abbrev pub needed : {A : Type 0} → List A → ℕ

@@ -5,7 +5,7 @@ use Rattle.text.specs.declared.refusals.Fault.{Fault}
 use Rattle.edit_map.specs.declared.entries.Entry.{Entry}
 use Rattle.edit_map.specs.declared.entries.Side.{Side}
 use Rattle.edit_map.specs.declared.map.EditMap.{EditMap}
-use Rattle.edit_map.specs.Edits.{Edit, idle, added_at, add_answer, after}
+use Rattle.edit_map.specs.Edits.{Edit, put, idle, added_at, add_answer, after}
 use Rattle.edit_map.specs.Entries.{total, edits}
 use Rattle.edit_map.specs.Laws.{IsOrderFree, Rising}
 
@@ -34,3 +34,9 @@ pub record Added {A : Type 0} (side : Side) (place count : ℕ) (xs : List A) (m
   pub refused : IfErr r (λ _. (m' ≡ m) × (store' ≡ store))
   pub no_effect : idle count xs ≡ true → (m' ≡ m) × (store' ≡ store)
   pub order_free : IsOrderFree side place count xs (edits_of m store)
+
+-- what putting an edit in does, where nothing stands in its way
+pub record PutIn {A : Type 0} (side : Side) (place count : ℕ) (xs : List A) (m m' : EditMap) (store store' : List A) : Type 0 where
+  pub edits : edits_of m' store' ≡ put side place count xs (edits_of m store)
+  pub kept : kept_count m' ≡ kept_count m + length xs
+  pub rest : drop (kept_count m + length xs) store' ≡ drop (kept_count m + length xs) store

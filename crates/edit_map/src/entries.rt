@@ -1,5 +1,6 @@
-// What a map keeps for each place.
+// What a map keeps for each place, and what is added to it.
 ghost use Rattle.std.specs.Prelude.{◌≡◌, ◌+◌, ◌^◌, ◌<◌};
+ghost use Rattle.edit_map.specs.Edits.{idle};
 ghost use Rattle.edit_map.specs.Entries.{offset};
 
 // From `place` on, `count` elements of the list are removed, and `size` elements of the store come in their stead.
@@ -36,5 +37,23 @@ impl Side {
             Side::Front => 0,
             Side::Back => size,
         }
+    }
+}
+
+// One more edit: from `place` on, `count` elements of the list are to be replaced by these.
+#[derive(Drop)]
+pub struct Addition<'a, T> {
+    pub place: usize,
+    pub count: usize,
+    pub elements: &'a [T],
+    pub side: Side,
+}
+
+impl<'a, T> Addition<'a, T> {
+    // It removes nothing and adds nothing.
+    pub fn is_idle(&self) -> bool
+        ensures { result ≡ idle self.now.count self.now.elements.now }
+    {
+        self.count == 0 && self.elements.is_empty()
     }
 }

@@ -1,14 +1,14 @@
 // One more edit.
-ghost use Rattle.std.specs.Prelude.{◌≡◌, ◌+◌, ◌<◌, ◌≤◌, true, length, drop, vec_len, vec_capacity, OnErr, nat_le, slice_index_or};
-ghost use Rattle.edit_map.specs.Edits.{added, added_before, put, idle, add_answer, after};
-ghost use Rattle.edit_map.specs.Entries.{entry, total, well_formed, edits, At, NoneAt};
+ghost use Rattle.std.specs.Prelude.{◌≡◌, ◌+◌, ◌<◌, ◌≤◌, true, length, drop, vec_len, OnErr, nat_le};
+ghost use Rattle.edit_map.specs.Edits.{added, added_before, count_at, idle, add_answer, after};
+ghost use Rattle.edit_map.specs.Entries.{At, NoneAt};
 ghost use Rattle.edit_map.specs.Laws.{IsOrderFree, Rising};
-ghost use Rattle.edit_map.specs.View.{kept_count, edits_of, Added};
+ghost use Rattle.edit_map.specs.View.{entries_of, kept_count, edits_of, Added, PutIn};
 
-use super::search::{entry_at, search, size_of_first};
+use super::search::total_size;
 use super::store::splice;
 use super::{EditMap, HIGHEST, MOST_PLACES};
-use crate::entries::{Entry, Side};
+use crate::entries::{Addition, Entry, Side};
 use text::Fault;
 
 impl EditMap {
@@ -34,7 +34,15 @@ impl EditMap {
         ensures no_effect { idle count elements.now ≡ true → (self.new ≡ self.old) × (store.new ≡ store.old) }
         ensures order_free { IsOrderFree Side.Back place count elements.now (edits_of self.old store.old) }
     {
-        self.put(store, place, count, elements, Side::Back)
+        self.put(
+            store,
+            &Addition {
+                place,
+                count,
+                elements,
+                side: Side::Back,
+            },
+        )
     }
 
     // The same as `add`, but the elements go in front of those that are kept at that place.
@@ -54,25 +62,26 @@ impl EditMap {
         ensures no_effect { idle count elements.now ≡ true → (self.new ≡ self.old) × (store.new ≡ store.old) }
         ensures order_free { IsOrderFree Side.Front place count elements.now (edits_of self.old store.old) }
     {
-        self.put(store, place, count, elements, Side::Front)
+        self.put(
+            store,
+            &Addition {
+                place,
+                count,
+                elements,
+                side: Side::Front,
+            },
+        )
     }
 
-    fn put<T: Copy>(
-        &mut self,
-        store: &mut [T],
-        place: usize,
-        count: usize,
-        elements: &[T],
-        side: Side,
-    ) -> Result<(), Fault>
-        ensures { Added side place count elements.now self.old self.new store.old store.new result }
+    fn put<T: Copy>(&mut self, store: &mut [T], addition: &Addition<T>) -> Result<(), Fault>
+        ensures { Added addition.now.side addition.now.place addition.now.count addition.now.elements.now self.old self.new store.old store.new result }
     {
-        if place > HIGHEST {
+        if addition.place > HIGHEST {
             return Err(Fault::EditOutOfRange(0));
         }
-        match search(&self.entries, place) {
-            Ok(rank) => self.put_to(store, rank, place, count, elements, side),
-            Err(rank) => self.put_new(store, rank, place, count, elements, side),
+        match self.search(addition.place) {
+            Ok(rank) => self.put_to(store, rank, addition),
+            Err(rank) => self.put_new(store, rank, addition),
         }
     }
 
@@ -81,36 +90,22 @@ impl EditMap {
         &mut self,
         store: &mut [T],
         rank: usize,
-        place: usize,
-        count: usize,
-        elements: &[T],
-        side: Side,
+        addition: &Addition<T>,
     ) -> Result<(), Fault>
-        requires at { At place self.old.entries.items rank }
-        requires low { place ≤ 4096 }
-        ensures { Added side place count elements.now self.old self.new store.old store.new result }
+        requires at { At addition.now.place (entries_of self.old) rank }
+        requires low { addition.now.place ≤ 4096 }
+        ensures { Added addition.now.side addition.now.place addition.now.count addition.now.elements.now self.old self.new store.old store.new result }
     {
-        let old = entry_at(&self.entries, rank);
-        if count > HIGHEST - old.count {
+        if addition.count > HIGHEST - self.entries[rank].count {
             return Err(Fault::EditOutOfRange(0));
         }
-        if is_idle(count, elements) {
+        if addition.is_idle() {
             return Ok(());
         }
-        if !has_room(store.len(), self.kept, elements.len()) {
+        if !self.has_room(store.len(), addition.elements.len()) {
             return Err(Fault::NoRoomForEdit);
         }
-        widen(
-            &mut self.entries,
-            store,
-            self.kept,
-            rank,
-            old,
-            count,
-            elements,
-            side,
-        );
-        self.kept += elements.len();
+        self.widen(store, rank, addition);
         Ok(())
     }
 
@@ -119,121 +114,69 @@ impl EditMap {
         &mut self,
         store: &mut [T],
         rank: usize,
-        place: usize,
-        count: usize,
-        elements: &[T],
-        side: Side,
+        addition: &Addition<T>,
     ) -> Result<(), Fault>
-        requires none { NoneAt place self.old.entries.items rank }
-        requires low { place ≤ 4096 }
-        ensures { Added side place count elements.now self.old self.new store.old store.new result }
+        requires none { NoneAt addition.now.place (entries_of self.old) rank }
+        requires low { addition.now.place ≤ 4096 }
+        ensures { Added addition.now.side addition.now.place addition.now.count addition.now.elements.now self.old self.new store.old store.new result }
     {
-        if count > HIGHEST {
+        if addition.count > HIGHEST {
             return Err(Fault::EditOutOfRange(0));
         }
-        if is_idle(count, elements) {
+        if addition.is_idle() {
             return Ok(());
         }
-        if self.entries.len() >= MOST_PLACES {
+        if self.entries.len() >= MOST_PLACES
+            || !self.has_room(store.len(), addition.elements.len())
+        {
             return Err(Fault::NoRoomForEdit);
         }
-        if !has_room(store.len(), self.kept, elements.len()) {
-            return Err(Fault::NoRoomForEdit);
-        }
-        enter(
-            &mut self.entries,
-            store,
-            self.kept,
-            rank,
-            place,
-            count,
-            elements,
-            side,
-        );
-        self.kept += elements.len();
+        self.enter(store, rank, addition);
         Ok(())
     }
-}
 
-fn is_idle<T>(count: usize, elements: &[T]) -> bool
-    ensures { result ≡ idle count elements.now }
-{
-    count == 0 && elements.is_empty()
-}
+    // A store of `room` elements takes so many more than the kept ones.
+    fn has_room(&self, room: usize, more: usize) -> bool
+        ensures { result ≡ nat_le (kept_count self.now + more) room }
+    {
+        room.checked_sub(self.kept).is_some_and(|free| more <= free)
+    }
 
-// A store of `room` elements, of which the first `kept` are used, takes so many more.
-fn has_room(room: usize, kept: usize, more: usize) -> bool
-    ensures { result ≡ nat_le (kept + more) room }
-{
-    kept <= room && more <= room - kept
-}
+    // Adds to the edit of this rank.
+    fn widen<T: Copy>(&mut self, store: &mut [T], rank: usize, addition: &Addition<T>)
+        requires at { At addition.now.place (entries_of self.old) rank }
+        requires room { kept_count self.old + length addition.now.elements.now ≤ length store.old }
+        requires small { count_at addition.now.place (edits_of self.old store.old) + addition.now.count ≤ 4096 }
+        ensures { PutIn addition.now.side addition.now.place addition.now.count addition.now.elements.now self.old self.new store.old store.new }
+    {
+        let old = self.entries[rank];
+        let start = total_size(&self.entries[..rank]) + addition.side.offset(old.size);
+        splice(store, self.kept, start, addition.elements);
+        self.entries[rank] = Entry {
+            count: old.count + addition.count,
+            size: old.size + addition.elements.len(),
+            ..old
+        };
+        self.kept += addition.elements.len();
+    }
 
-// Adds to the edit of this rank.
-fn widen<T: Copy>(
-    entries: &mut Vec<Entry>,
-    store: &mut [T],
-    kept: usize,
-    rank: usize,
-    old: Entry,
-    count: usize,
-    elements: &[T],
-    side: Side,
-)
-    requires at { At old.place entries.old.items rank }
-    requires old { old ≡ slice_index_or entries.old.items rank (entry 0 0 0) }
-    requires ordered { well_formed 0 entries.old.items ≡ true }
-    requires tally { kept ≡ total entries.old.items }
-    requires room { kept + length elements.now ≤ length store.old }
-    requires small { old.count + count ≤ 4096 }
-    ensures edits { edits entries.new.items store.new ≡ put side old.place count elements.now (edits entries.old.items store.old) }
-    ensures rest { drop (kept + length elements.now) store.new ≡ drop (kept + length elements.now) store.old }
-    ensures ordered { well_formed 0 entries.new.items ≡ true }
-    ensures tally { total entries.new.items ≡ kept + length elements.now }
-    ensures len { vec_len entries.new ≡ vec_len entries.old }
-    ensures capacity { vec_capacity entries.old ≤ vec_capacity entries.new }
-{
-    let start = size_of_first(entries, rank);
-    splice(store, kept, start + side.offset(old.size), elements);
-    entries[rank] = Entry {
-        place: old.place,
-        count: old.count + count,
-        size: old.size + elements.len(),
-    };
-}
-
-// Keeps a new edit, which takes this rank.
-fn enter<T: Copy>(
-    entries: &mut Vec<Entry>,
-    store: &mut [T],
-    kept: usize,
-    rank: usize,
-    place: usize,
-    count: usize,
-    elements: &[T],
-    side: Side,
-)
-    requires none { NoneAt place entries.old.items rank }
-    requires ordered { well_formed 0 entries.old.items ≡ true }
-    requires tally { kept ≡ total entries.old.items }
-    requires place_left { vec_len entries.old < vec_capacity entries.old }
-    requires room { kept + length elements.now ≤ length store.old }
-    requires small { (place ≤ 4096) × (count ≤ 4096) }
-    ensures edits { edits entries.new.items store.new ≡ put side place count elements.now (edits entries.old.items store.old) }
-    ensures rest { drop (kept + length elements.now) store.new ≡ drop (kept + length elements.now) store.old }
-    ensures ordered { well_formed 0 entries.new.items ≡ true }
-    ensures tally { total entries.new.items ≡ kept + length elements.now }
-    ensures len { vec_len entries.new ≡ vec_len entries.old + 1 }
-    ensures capacity { vec_capacity entries.old ≤ vec_capacity entries.new }
-{
-    let start = size_of_first(entries, rank);
-    splice(store, kept, start, elements);
-    // There is room for it, so this takes no memory and cannot fail.
-    let _ = entries.insert(
-        rank,
-        Entry {
-            place,
-            count,
-            size: elements.len(),
-        },
-    );
+    // Keeps a new edit, which takes this rank.
+    fn enter<T: Copy>(&mut self, store: &mut [T], rank: usize, addition: &Addition<T>)
+        requires none { NoneAt addition.now.place (entries_of self.old) rank }
+        requires place_left { vec_len self.old.entries < 1024 }
+        requires room { kept_count self.old + length addition.now.elements.now ≤ length store.old }
+        requires small { (addition.now.place ≤ 4096) × (addition.now.count ≤ 4096) }
+        ensures { PutIn addition.now.side addition.now.place addition.now.count addition.now.elements.now self.old self.new store.old store.new }
+    {
+        let start = total_size(&self.entries[..rank]);
+        splice(store, self.kept, start, addition.elements);
+        let entry = Entry {
+            place: addition.place,
+            count: addition.count,
+            size: addition.elements.len(),
+        };
+        // There is room for it, so this takes no memory and cannot fail.
+        let _ = self.entries.insert(rank, entry);
+        self.kept += addition.elements.len();
+    }
 }

@@ -1,7 +1,8 @@
 // All edits made at once.
-ghost use Rattle.std.specs.Prelude.{◌≡◌, ◌+◌, ◌^◌, ◌<◌, ◌≤◌, true, ◌++◌, length, drop, IfOk, OnErr, OnOk};
+ghost use Rattle.std.specs.Prelude.{◌≡◌, ◌+◌, ◌^◌, ◌<◌, ◌≤◌, true, ◌++◌, length, drop, IfOk, OnErr, OnOk, nat_lt};
+ghost use Rattle.std.specs.List.{All, position, sum_by};
 ghost use Rattle.text.specs.Lent.{overwritten};
-ghost use Rattle.edit_map.specs.Edits.{applied, past_end, inside_removal, consume_check, size_answer, consume_answer, after};
+ghost use Rattle.edit_map.specs.Edits.{applied, inside_removal, IsRank, consume_check, size_answer, consume_answer, after};
 ghost use Rattle.edit_map.specs.Entries.{total, well_formed, edits, bare};
 ghost use Rattle.edit_map.specs.Laws.{InOrder, removed, stored, one_at_a_time, ValuesKept, OrderKept};
 ghost use Rattle.edit_map.specs.View.{entries_of, kept_count, edits_of, AsNew};
@@ -50,12 +51,10 @@ impl EditMap {
     fn check(&self, room: usize, len: usize) -> Result<(), Fault>
         ensures { result ≡ consume_check room (kept_count self.now) len (bare (entries_of self.now)) }
     {
-        let rank = past_end(&self.entries, len);
-        if rank < self.entries.len() {
+        if let Some(rank) = past_end(&self.entries, len) {
             return Err(Fault::EditOutOfRange(rank));
         }
-        let rank = inside_removal(&self.entries);
-        if rank < self.entries.len() {
+        if let Some(rank) = inside_removal(&self.entries) {
             return Err(Fault::EditInsideRemoval(rank));
         }
         if room < self.kept {
@@ -84,44 +83,35 @@ impl EditMap {
     }
 }
 
-// The rank of the first edit that reaches past the end of a list of `len` elements; how many there are where none does.
-fn past_end(entries: &[Entry], len: usize) -> usize
-    requires { well_formed 0 entries.now ≡ true }
-    ensures { result ≡ past_end len (bare entries.now) }
+// The rank of the first edit that reaches past the end of a list of `len` elements.
+fn past_end(entries: &[Entry], len: usize) -> Option<usize>
+    requires { All (λ e. e.place + e.count < 2 ^ 64) entries.now }
+    ensures { result ≡ position (λ e. nat_lt len (e.place + e.count)) entries.now }
 {
-    for (rank, entry) in entries.iter().enumerate() {
-        if entry.end() > len {
-            return rank;
-        }
-    }
-    entries.len()
+    entries.iter().position(|entry| entry.end() > len)
 }
 
-// The rank of the first edit that begins inside the run that is removed before it; how many there are where none does.
-fn inside_removal(entries: &[Entry]) -> usize
-    requires { well_formed 0 entries.now ≡ true }
-    ensures { result ≡ inside_removal 0 (bare entries.now) }
+// The rank of the first edit that begins inside the run that is removed before it.
+fn inside_removal(entries: &[Entry]) -> Option<usize>
+    requires { All (λ e. e.place + e.count < 2 ^ 64) entries.now }
+    ensures { IsRank result (inside_removal 0 (bare entries.now)) (length entries.now) }
 {
     let mut end = 0;
     for (rank, entry) in entries.iter().enumerate() {
         if entry.place < end {
-            return rank;
+            return Some(rank);
         }
         end = entry.end();
     }
-    entries.len()
+    None
 }
 
 // How many elements of the list are removed.
 fn removed_count(entries: &[Entry]) -> usize
-    requires { removed (bare entries.now) < 2 ^ 64 }
-    ensures { result ≡ removed (bare entries.now) }
+    requires { sum_by (λ e. e.count) entries.now < 2 ^ 64 }
+    ensures { result ≡ sum_by (λ e. e.count) entries.now }
 {
-    let mut count = 0;
-    for entry in entries {
-        count += entry.count;
-    }
-    count
+    entries.iter().map(|entry| entry.count).sum()
 }
 
 // One pass over the list and the edits, which lie in it in order.

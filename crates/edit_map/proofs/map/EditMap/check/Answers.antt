@@ -1,33 +1,38 @@
-use Rattle.std.proofs.Common.{vec_items, ap, ◌∙◌, arith}
-use Rattle.edit_map.specs.Edits.{past_end, inside_removal}
-use Rattle.edit_map.specs.Entries.{bare}
+use Rattle.std.proofs.Common.{vec_items, Some, None, arith}
 use Rattle.edit_map.specs.View.{kept_count}
-use Rattle.edit_map.proofs.Checks.{fails_13, fails_14, fails_15, passes}
+use Rattle.edit_map.proofs.Ranks.{ends_fit}
+use Rattle.edit_map.proofs.Checks.{past_found, fails_13, fails_14, fails_15, passes}
 use Rattle.edit_map.proofs.map.EditMap.check.Goals as goal
 
-pub returns-then-rank-len : goal.returns-then-rank-len
-returns-then-rank-len c =
-    let m = c.args.self.now in
-    let past = c.past_end-rank.ensures ∙ ap (λ l. past_end c.args.len (bare l)) c.deref.ensures.value in
-    fails_13 c.args.room (kept_count m) c.args.len (vec_items m.entries) c.past_end-rank.result past (omega (arith, m.entries.ok.0))
+pub past_end-requires : goal.past_end-requires
+past_end-requires c = rw c.deref.ensures.value (ends_fit (vec_items c.args.self.now.entries) c.args.self.now.ordered)
 
-pub returns-then-rank-len-2 : goal.returns-then-rank-len-2
-returns-then-rank-len-2 c =
+pub returns-in-Some : goal.returns-in-Some
+returns-in-Some c =
     let m = c.args.self.now in
-    let past = c.past_end-rank.ensures ∙ ap (λ l. past_end c.args.len (bare l)) c.deref.ensures.value in
-    let inside = c.inside_removal-rank.ensures ∙ ap (λ l. inside_removal 0 (bare l)) c.deref-2.ensures.value in
-    fails_14 c.args.room (kept_count m) c.args.len (vec_items m.entries) (omega (arith, m.entries.ok.0)) c.inside_removal-rank.result inside (omega (arith, m.entries.ok.0))
+    let past = past_found c.args.len (vec_items m.entries) (Some c.in-Some.rank) (rw c.deref.ensures.value at c.in-Some.ensures) in
+    fails_13 c.args.room (kept_count m) c.args.len (vec_items m.entries) c.in-Some.rank past.0 past.1
+
+pub inside_removal-requires : goal.inside_removal-requires
+inside_removal-requires c = rw c.deref-2.ensures.value (ends_fit (vec_items c.args.self.now.entries) c.args.self.now.ordered)
+
+pub returns-in-Some-inside_removal : goal.returns-in-Some-inside_removal
+returns-in-Some-inside_removal c =
+    let m = c.args.self.now in
+    let past = past_found c.args.len (vec_items m.entries) None (rw c.deref.ensures.value at c.in_default.ensures) in
+    let inside = rw c.deref-2.ensures.value at c.in-Some-inside_removal.ensures in
+    fails_14 c.args.room (kept_count m) c.args.len (vec_items m.entries) past c.in-Some-inside_removal.rank inside.0 inside.1
 
 pub returns-then-room-self : goal.returns-then-room-self
 returns-then-room-self c =
     let m = c.args.self.now in
-    let past = c.past_end-rank.ensures ∙ ap (λ l. past_end c.args.len (bare l)) c.deref.ensures.value in
-    let inside = c.inside_removal-rank.ensures ∙ ap (λ l. inside_removal 0 (bare l)) c.deref-2.ensures.value in
-    fails_15 c.args.room (kept_count m) c.args.len (vec_items m.entries) (omega (arith, m.entries.ok.0)) (omega (arith, m.entries.ok.0)) (omega (arith, m.tally))
+    let past = past_found c.args.len (vec_items m.entries) None (rw c.deref.ensures.value at c.in_default.ensures) in
+    let inside = rw c.deref-2.ensures.value at c.in_default-inside_removal.ensures in
+    fails_15 c.args.room (kept_count m) c.args.len (vec_items m.entries) past inside (omega (arith, m.tally))
 
 pub returns : goal.returns
 returns c =
     let m = c.args.self.now in
-    let past = c.past_end-rank.ensures ∙ ap (λ l. past_end c.args.len (bare l)) c.deref.ensures.value in
-    let inside = c.inside_removal-rank.ensures ∙ ap (λ l. inside_removal 0 (bare l)) c.deref-2.ensures.value in
-    passes c.args.room (kept_count m) c.args.len (vec_items m.entries) (omega (arith, m.entries.ok.0)) (omega (arith, m.entries.ok.0)) (omega (arith, m.tally))
+    let past = past_found c.args.len (vec_items m.entries) None (rw c.deref.ensures.value at c.in_default.ensures) in
+    let inside = rw c.deref-2.ensures.value at c.in_default-inside_removal.ensures in
+    passes c.args.room (kept_count m) c.args.len (vec_items m.entries) past inside (omega (arith, m.tally))

@@ -4,7 +4,7 @@ use Rattle.edit_map.specs.declared.entries.Entry.{Entry}
 use Rattle.edit_map.specs.Edits.{applied}
 use Rattle.edit_map.specs.Entries.{edits, bare, total}
 use Rattle.edit_map.specs.Laws.{InOrder, removed}
-use Rattle.edit_map.proofs.Checks.{removed-bare}
+use Rattle.edit_map.proofs.Checks.{removed-bare, removed_sum}
 use Rattle.edit_map.proofs.Lengths.{removed-within}
 use Rattle.edit_map.proofs.Consumes.{new-length, short, too_many, long-enough, over}
 use Rattle.edit_map.proofs.map.EditMap.write.Goals as goal
@@ -14,15 +14,16 @@ removed_count-requires g c =
     let es = vec_items c.args.self.now.entries in
     let within = removed-within 0 (length c.args.list.now) (edits es c.args.store.now) (omega arith) c.requires.order in
     let same = removed-bare es c.args.store.now in
-    let here = ap (λ l. removed (bare l)) c.deref.ensures.value in
-    omega arith
+    let sum = removed_sum es in
+    rw c.deref.ensures.value (omega arith)
 
 pub overflow_sub-stays : goal.overflow_sub-stays
 overflow_sub-stays g c =
     let es = vec_items c.args.self.now.entries in
     let within = removed-within 0 (length c.args.list.now) (edits es c.args.store.now) (omega arith) c.requires.order in
     let same = removed-bare es c.args.store.now in
-    let here = ap (λ l. removed (bare l)) c.deref.ensures.value in
+    let here = rw c.deref.ensures.value at c.removed_count.ensures in
+    let sum = removed_sum es in
     omega arith
 
 pub returns-then-needed-out : goal.returns-then-needed-out
@@ -30,10 +31,11 @@ returns-then-needed-out g c =
     let m = c.args.self.now in
     let es = vec_items m.entries in
     let all = new-length es c.args.store.now c.args.list.now c.requires.order c.requires.stored in
-    let here = ap (λ l. removed (bare l)) c.deref.ensures.value in
-    let sum = c.in-Some.ensures in
+    let here = rw c.deref.ensures.value at c.removed_count.ensures in
+    let sum = removed_sum es in
+    let needed = c.in-Some.ensures in
     record {
-      answer = short (applied (edits es c.args.store.now) c.args.list.now) c.args.out.now c.in-Some.needed (omega (arith, m.tally, sum.1)) (omega (arith, sum.0, sum.1)) c.if-needed-out.true;
+      answer = short (applied (edits es c.args.store.now) c.args.list.now) c.args.out.now c.in-Some.needed (omega (arith, m.tally, needed.1)) (omega (arith, needed.0, needed.1)) c.if-needed-out.true;
       written = refl;
     }
 
@@ -42,13 +44,14 @@ apply-requires g c =
     let m = c.args.self.now in
     let es = vec_items m.entries in
     let all = new-length es c.args.store.now c.args.list.now c.requires.order c.requires.stored in
-    let here = ap (λ l. removed (bare l)) c.deref.ensures.value in
-    let sum = c.in-Some.ensures in
+    let here = rw c.deref.ensures.value at c.removed_count.ensures in
+    let sum = removed_sum es in
+    let needed = c.in-Some.ensures in
     let is = sym c.deref-in-Some.ensures.value in
     record {
       order = subst (λ (l : List Entry). InOrder 0 (length c.args.list.now) (edits l c.args.store.now)) is c.requires.order;
       stored = subst (λ (l : List Entry). total l ≤ length c.args.store.now) is c.requires.stored;
-      room = subst (λ (l : List Entry). length (applied (edits l c.args.store.now) c.args.list.now) ≤ length c.args.out.now) is (omega (arith, m.tally, sum.1));
+      room = subst (λ (l : List Entry). length (applied (edits l c.args.store.now) c.args.list.now) ≤ length c.args.out.now) is (omega (arith, m.tally, needed.1));
     }
 
 pub returns-else-needed-out : goal.returns-else-needed-out
@@ -56,10 +59,11 @@ returns-else-needed-out g c =
     let m = c.args.self.now in
     let es = vec_items m.entries in
     let all = new-length es c.args.store.now c.args.list.now c.requires.order c.requires.stored in
-    let here = ap (λ l. removed (bare l)) c.deref.ensures.value in
-    let sum = c.in-Some.ensures in
+    let here = rw c.deref.ensures.value at c.removed_count.ensures in
+    let sum = removed_sum es in
+    let needed = c.in-Some.ensures in
     let xs = applied (edits es c.args.store.now) c.args.list.now in
-    let room : length (applied (edits es c.args.store.now) c.args.list.now) ≤ length c.args.out.now = omega (arith, m.tally, sum.1) in
+    let room : length (applied (edits es c.args.store.now) c.args.list.now) ≤ length c.args.out.now = omega (arith, m.tally, needed.1) in
     let is = c.deref-in-Some.ensures.value in
     record {
       answer = long-enough xs c.args.out.now c.apply.result (c.apply.ensures.end ∙ ap (λ l. length (applied (edits l c.args.store.now) c.args.list.now)) is) room;
@@ -71,7 +75,8 @@ returns-in-None g c =
     let m = c.args.self.now in
     let es = vec_items m.entries in
     let all = new-length es c.args.store.now c.args.list.now c.requires.order c.requires.stored in
-    let here = ap (λ l. removed (bare l)) c.deref.ensures.value in
+    let here = rw c.deref.ensures.value at c.removed_count.ensures in
+    let sum = removed_sum es in
     let over : 18446744073709551616 ≤ length c.args.list.now - removed (bare es) + total es = ⊎_elim (λ lt. absurd (c.in-None.ensures (omega (arith, m.tally)))) (λ le. le) (cases_lt (length c.args.list.now - removed (bare es) + total es) 18446744073709551616) in
     record {
       answer = too_many (applied (edits es c.args.store.now) c.args.list.now) c.args.out.now (omega arith) (omega arith);

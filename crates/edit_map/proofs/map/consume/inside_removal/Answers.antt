@@ -1,19 +1,16 @@
 use Rattle.std.proofs.Common.{◌+◌, drop, ap, arith}
 use Rattle.edit_map.specs.Edits.{inside_removal}
-use Rattle.edit_map.specs.Entries.{bare}
+use Rattle.edit_map.specs.Entries.{entry, bare}
 use Rattle.edit_map.proofs.Checks.{inside_here, inside-more, inside-all}
-use Rattle.edit_map.proofs.Ranks.{wf_at}
 use Rattle.edit_map.proofs.map.consume.inside_removal.Goals as goal
 
 pub returns-then-entry-end : goal.returns-then-entry-end
 returns-then-entry-end c =
     let e = inside_here c.args.entries.now c.loop-rank.rank c.loop-rank-test.true c.loop-rank.end c.if-entry-end.true in
-    omega (arith, c.loop-rank.invariant)
+    (omega (arith, c.loop-rank.invariant), c.loop-rank-test.true)
 
 pub end-end-requires : goal.end-end-requires
-end-end-requires c =
-    let w = wf_at 0 c.args.entries.now c.loop-rank.rank c.requires c.loop-rank-test.true in
-    omega (arith, w.1, w.2)
+end-end-requires c = c.requires c.loop-rank.rank (entry 0 0 0) c.loop-rank-test.true
 
 pub loop-rank-preserved : goal.loop-rank-preserved
 loop-rank-preserved c =
