@@ -6,30 +6,21 @@ mod work;
 
 use std::time::Instant;
 use std::{env, io};
-use work::{Load, Tally};
+use work::Load;
 
 fn main(rt: HostRuntime) -> io::Result<()> {
-    let mut rounds = 1;
-    let mut timed = false;
-    if let Some(word) = env::args(&rt)?.nth(1) {
-        rounds = word.parse::<u32>().unwrap_or(1);
-        timed = true;
-    }
+    let rounds = env::args(&rt)?
+        .nth(1)
+        .map(|word| word.parse::<u32>().unwrap_or(1));
     let mut load = Load::new(rt.alloc())?;
     let start = Instant::now(&rt)?;
-    let tally = load.run(rounds);
+    let tally = load.run(rounds.unwrap_or(1));
     let micros = start.elapsed(&rt)?.as_micros();
     match tally {
-        Ok(
-            Tally {
-                edits,
-                elements,
-                last,
-            },
-        ) => {
-            println!(rt; "{edits} edits made, {elements} elements written, {last} at last")?;
-            if timed {
-                let per_second = elements as u128 * 1_000_000 / micros.max(1);
+        Ok(tally) => {
+            println!(rt; "{tally}")?;
+            if rounds.is_some() {
+                let per_second = tally.elements as u128 * 1_000_000 / micros.max(1);
                 println!(rt; "{micros} microseconds, {per_second} elements per second")?;
             }
             Ok(())

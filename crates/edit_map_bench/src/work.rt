@@ -1,6 +1,7 @@
 // What the benchmark does.
 use edit_map::{EditMap, MOST_PLACES};
 use std::alloc::{AllocError, Global};
+use std::fmt;
 use text::Fault;
 
 const LIST_SIZE: usize = 65536;
@@ -20,11 +21,25 @@ pub struct Load {
 }
 
 // How many edits were made and elements written in all, and how many elements in the last round.
-#[derive(Clone, Copy)]
+#[derive(Clone, Copy, Default)]
 pub struct Tally {
     pub edits: u64,
     pub elements: u64,
     pub last: usize,
+}
+
+impl fmt::Display for Tally {
+    fn fmt<W: fmt::Write>(&self, f: &mut fmt::Formatter<W>) -> fmt::Result {
+        let Tally {
+            edits,
+            elements,
+            last,
+        } = *self;
+        write!(
+            f,
+            "{edits} edits made, {elements} elements written, {last} at last"
+        )
+    }
 }
 
 impl Load {
@@ -43,11 +58,7 @@ impl Load {
 
     // Each round keeps an edit at every fourth place, which replaces one element by two, and then makes them all.
     pub fn run(&mut self, rounds: u32) -> Result<Tally, Fault> {
-        let mut tally = Tally {
-            edits: 0,
-            elements: 0,
-            last: 0,
-        };
+        let mut tally = Tally::default();
         for _ in 0..rounds {
             for rank in 0..MOST_PLACES {
                 self.map.add(&mut self.store, 4 * rank, 1, &ADDED)?;
