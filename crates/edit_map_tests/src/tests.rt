@@ -4,8 +4,7 @@ use std::process::Abort;
 use std::test::*;
 use text::Fault;
 
-// A map with a store of 8 bytes and a buffer of 16, which starts as 16 dots. Answers are told as number and place of a
-// refusal, or as 0 and the number of elements written.
+// A map with a store of 8 bytes and a buffer of 16, which starts as 16 dots.
 #[derive(Drop)]
 struct Trial {
     map: EditMap,
@@ -23,43 +22,45 @@ impl Trial {
         })
     }
 
-    fn add(&mut self, place: usize, count: usize, elements: &[u8]) -> (u8, usize) {
-        told(self.map.add(&mut self.store, place, count, elements))
+    fn add(&mut self, place: usize, count: usize, elements: &[u8]) -> Result<(), Fault> {
+        self.map.add(&mut self.store, place, count, elements)
     }
 
-    fn add_before(&mut self, place: usize, count: usize, elements: &[u8]) -> (u8, usize) {
-        told(self.map.add_before(&mut self.store, place, count, elements))
+    fn add_before(&mut self, place: usize, count: usize, elements: &[u8]) -> Result<(), Fault> {
+        self.map.add_before(&mut self.store, place, count, elements)
     }
 
     // With the first elements of the store alone.
-    fn add_in(&mut self, room: usize, place: usize, count: usize, elements: &[u8]) -> (u8, usize) {
+    fn add_in(
+        &mut self,
+        room: usize,
+        place: usize,
+        count: usize,
+        elements: &[u8],
+    ) -> Result<(), Fault> {
         let room = room.min(8);
-        told(
-            self.map
-                .add(&mut self.store[0..room], place, count, elements),
-        )
+        self.map
+            .add(&mut self.store[0..room], place, count, elements)
     }
 
-    fn make(&mut self, list: &[u8]) -> (u8, usize) {
+    fn make(&mut self, list: &[u8]) -> Result<usize, Fault> {
         self.out = [b'.'; 16];
-        told_size(self.map.consume(&self.store, list, &mut self.out))
+        self.map.consume(&self.store, list, &mut self.out)
     }
 
     // With the first elements of the store and of the buffer alone.
-    fn make_in(&mut self, room: usize, size: usize, list: &[u8]) -> (u8, usize) {
+    fn make_in(&mut self, room: usize, size: usize, list: &[u8]) -> Result<usize, Fault> {
         let store = self.store;
-        let mut out = self.out;
         let room = room.min(8);
         let size = size.min(16);
-        let answer = told_size(self.map.consume(&store[0..room], list, &mut out[0..size]));
-        self.out = out;
-        answer
+        self.map
+            .consume(&store[0..room], list, &mut self.out[0..size])
     }
 
     // What the store holds, and the whole buffer.
     fn holds(&self, rt: &impl Abort, store: &[u8], out: &[u8]) -> Result<(), Fail> {
-        assert_eq!(rt; &self.store[0..8], store);
-        assert_eq!(rt; &self.out[0..16], out);
+        assert_eq!(rt; self.store.as_slice(), store);
+        assert_eq!(rt; self.out.as_slice(), out);
         Ok(())
     }
 
@@ -69,65 +70,54 @@ impl Trial {
     }
 }
 
-fn told(answer: Result<(), Fault>) -> (u8, usize) {
-    match answer {
-        Ok(()) => (0, 0),
-        Err(fault) => (fault.number(), fault.place()),
-    }
-}
-
-fn told_size(answer: Result<usize, Fault>) -> (u8, usize) {
-    match answer {
-        Ok(size) => (0, size),
-        Err(fault) => (fault.number(), fault.place()),
-    }
-}
-
 #[test]
 fn no_edits(rt: HostRuntime) -> Result<(), Fail> {
     let mut trial = Trial::new(&rt)?;
     assert!(rt; trial.map.is_empty());
-    assert_eq!(rt; trial.make(b"abc"), (0, 3));
+    assert_eq!(rt; trial.make(b"abc"), Ok(3));
     trial.holds(&rt, b"        ", b"abc.............")?;
-    assert_eq!(rt; trial.make(b""), (0, 0));
-    assert_eq!(rt; trial.make(b"0123456789abcdef"), (0, 16));
+    assert_eq!(rt; trial.make(b""), Ok(0));
+    assert_eq!(rt; trial.make(b"0123456789abcdef"), Ok(16));
     trial.holds(&rt, b"        ", b"0123456789abcdef")?;
-    assert_eq!(rt; trial.make(b"0123456789abcdefg"), (16, 17));
+    assert_eq!(rt;
+        trial.make(b"0123456789abcdefg"),
+        Err(Fault::BufferTooShort(17))
+    );
     Ok(())
 }
 
 #[test]
 fn first_and_last_place(rt: HostRuntime) -> Result<(), Fail> {
     let mut trial = Trial::new(&rt)?;
-    assert_eq!(rt; trial.add(5, 0, b"!"), (0, 0));
-    assert_eq!(rt; trial.add(0, 1, b"<>"), (0, 0));
-    assert_eq!(rt; trial.add(3, 1, b""), (0, 0));
+    assert_eq!(rt; trial.add(5, 0, b"!"), Ok(()));
+    assert_eq!(rt; trial.add(0, 1, b"<>"), Ok(()));
+    assert_eq!(rt; trial.add(3, 1, b""), Ok(()));
     assert_eq!(rt; trial.sizes(), (3, 3));
-    assert_eq!(rt; trial.make(b"abcde"), (0, 6));
+    assert_eq!(rt; trial.make(b"abcde"), Ok(6));
     trial.holds(&rt, b"<>!     ", b"<>bce!..........")?;
-    assert_eq!(rt; trial.add(0, 5, b""), (0, 0));
-    assert_eq!(rt; trial.make(b"abcde"), (0, 0), "the whole list is removed");
-    assert_eq!(rt; trial.make(b"abcde"), (0, 5), "no edit is left");
+    assert_eq!(rt; trial.add(0, 5, b""), Ok(()));
+    assert_eq!(rt; trial.make(b"abcde"), Ok(0), "the whole list is removed");
+    assert_eq!(rt; trial.make(b"abcde"), Ok(5), "no edit is left");
     Ok(())
 }
 
 #[test]
 fn an_edit_past_the_end(rt: HostRuntime) -> Result<(), Fail> {
     let mut trial = Trial::new(&rt)?;
-    assert_eq!(rt; trial.add(0, 1, b"x"), (0, 0));
-    assert_eq!(rt; trial.add(4, 2, b"y"), (0, 0));
-    assert_eq!(rt; trial.make(b"abcde"), (13, 1));
-    assert_eq!(rt; trial.make(b""), (13, 0));
+    assert_eq!(rt; trial.add(0, 1, b"x"), Ok(()));
+    assert_eq!(rt; trial.add(4, 2, b"y"), Ok(()));
+    assert_eq!(rt; trial.make(b"abcde"), Err(Fault::EditOutOfRange(1)));
+    assert_eq!(rt; trial.make(b""), Err(Fault::EditOutOfRange(0)));
     trial.holds(&rt, b"xy      ", b"................")?;
     assert_eq!(rt;
         trial.make(b"abcdef"),
-        (0, 5),
+        Ok(5),
         "place plus count is the length"
     );
-    assert_eq!(rt; trial.add(6, 0, b"z"), (0, 0));
+    assert_eq!(rt; trial.add(6, 0, b"z"), Ok(()));
     assert_eq!(rt;
         trial.make(b"abcde"),
-        (13, 0),
+        Err(Fault::EditOutOfRange(0)),
         "one past the place where elements are appended"
     );
     Ok(())
@@ -136,14 +126,20 @@ fn an_edit_past_the_end(rt: HostRuntime) -> Result<(), Fail> {
 #[test]
 fn highest_place_and_count(rt: HostRuntime) -> Result<(), Fail> {
     let mut trial = Trial::new(&rt)?;
-    assert_eq!(rt; trial.add(HIGHEST, HIGHEST, b""), (0, 0));
-    assert_eq!(rt; trial.add(HIGHEST + 1, 0, b"x"), (13, 0));
+    assert_eq!(rt; trial.add(HIGHEST, HIGHEST, b""), Ok(()));
+    assert_eq!(rt;
+        trial.add(HIGHEST + 1, 0, b"x"),
+        Err(Fault::EditOutOfRange(0))
+    );
     assert_eq!(rt;
         trial.add(HIGHEST + 1, 0, b""),
-        (13, 0),
+        Err(Fault::EditOutOfRange(0)),
         "though it has no effect"
     );
-    assert_eq!(rt; trial.add_before(0, HIGHEST + 1, b"x"), (13, 0));
+    assert_eq!(rt;
+        trial.add_before(0, HIGHEST + 1, b"x"),
+        Err(Fault::EditOutOfRange(0))
+    );
     assert_eq!(rt; trial.sizes(), (1, 0));
     Ok(())
 }
@@ -151,15 +147,15 @@ fn highest_place_and_count(rt: HostRuntime) -> Result<(), Fail> {
 #[test]
 fn counts_are_summed(rt: HostRuntime) -> Result<(), Fail> {
     let mut trial = Trial::new(&rt)?;
-    assert_eq!(rt; trial.add(7, 4000, b""), (0, 0));
+    assert_eq!(rt; trial.add(7, 4000, b""), Ok(()));
     assert_eq!(rt;
         trial.add_before(7, 97, b"123456789"),
-        (13, 0),
+        Err(Fault::EditOutOfRange(0)),
         "13 is tested before 15"
     );
-    assert_eq!(rt; trial.add(7, 96, b""), (0, 0));
-    assert_eq!(rt; trial.add(7, 1, b""), (13, 0));
-    assert_eq!(rt; trial.add(7, 0, b"x"), (0, 0));
+    assert_eq!(rt; trial.add(7, 96, b""), Ok(()));
+    assert_eq!(rt; trial.add(7, 1, b""), Err(Fault::EditOutOfRange(0)));
+    assert_eq!(rt; trial.add(7, 0, b"x"), Ok(()));
     assert_eq!(rt; trial.sizes(), (1, 1));
     Ok(())
 }
@@ -168,16 +164,19 @@ fn counts_are_summed(rt: HostRuntime) -> Result<(), Fail> {
 fn all_places(rt: HostRuntime) -> Result<(), Fail> {
     let mut trial = Trial::new(&rt)?;
     // From the last place to the first, so that each is put before all others.
-    for i in 0..MOST_PLACES {
-        assert_eq!(rt; trial.add(2 * (MOST_PLACES - 1 - i), 1, b""), (0, 0));
+    for i in (0..MOST_PLACES).rev() {
+        assert_eq!(rt; trial.add(2 * i, 1, b""), Ok(()));
     }
-    assert_eq!(rt; trial.add(1, 1, b""), (15, 0));
-    assert_eq!(rt; trial.add_before(2 * MOST_PLACES, 0, b"x"), (15, 0));
-    assert_eq!(rt; trial.add(1, 0, b""), (0, 0), "it takes no place");
-    assert_eq!(rt; trial.add(2, 0, b"x"), (0, 0), "it takes no new place");
+    assert_eq!(rt; trial.add(1, 1, b""), Err(Fault::NoRoomForEdit));
+    assert_eq!(rt;
+        trial.add_before(2 * MOST_PLACES, 0, b"x"),
+        Err(Fault::NoRoomForEdit)
+    );
+    assert_eq!(rt; trial.add(1, 0, b""), Ok(()), "it takes no place");
+    assert_eq!(rt; trial.add(2, 0, b"x"), Ok(()), "it takes no new place");
     assert_eq!(rt; trial.sizes(), (MOST_PLACES, 1));
     every_second(&rt, &mut trial)?;
-    assert_eq!(rt; trial.add(1, 1, b""), (0, 0), "all places are free again");
+    assert_eq!(rt; trial.add(1, 1, b""), Ok(()), "all places are free again");
     Ok(())
 }
 
@@ -185,10 +184,7 @@ fn all_places(rt: HostRuntime) -> Result<(), Fail> {
 fn every_second(rt: &impl Abort, trial: &mut Trial) -> Result<(), Fail> {
     let list = [b'a'; 2048];
     let mut out = [b'.'; 1026];
-    assert_eq!(rt;
-        told_size(trial.map.consume(&trial.store, &list, &mut out)),
-        (0, 1025)
-    );
+    assert_eq!(rt; trial.map.consume(&trial.store, &list, &mut out), Ok(1025));
     assert_eq!(rt; &out[0..3], b"axa".as_slice());
     assert_eq!(rt; &out[1023..1026], b"aa.".as_slice());
     Ok(())
@@ -197,21 +193,21 @@ fn every_second(rt: &impl Abort, trial: &mut Trial) -> Result<(), Fail> {
 #[test]
 fn a_full_store(rt: HostRuntime) -> Result<(), Fail> {
     let mut trial = Trial::new(&rt)?;
-    assert_eq!(rt; trial.add(2, 0, b"1234567"), (0, 0));
-    assert_eq!(rt; trial.add(1, 0, b"ab"), (15, 0));
-    assert_eq!(rt; trial.add_before(2, 0, b"ab"), (15, 0));
+    assert_eq!(rt; trial.add(2, 0, b"1234567"), Ok(()));
+    assert_eq!(rt; trial.add(1, 0, b"ab"), Err(Fault::NoRoomForEdit));
+    assert_eq!(rt; trial.add_before(2, 0, b"ab"), Err(Fault::NoRoomForEdit));
     trial.holds(&rt, b"1234567 ", b"................")?;
-    assert_eq!(rt; trial.add(1, 0, b"a"), (0, 0), "the store is just full");
+    assert_eq!(rt; trial.add(1, 0, b"a"), Ok(()), "the store is just full");
     trial.holds(&rt, b"a1234567", b"................")?;
-    assert_eq!(rt; trial.add(9, 1, b""), (0, 0));
+    assert_eq!(rt; trial.add(9, 1, b""), Ok(()));
     assert_eq!(rt;
         trial.add_in(7, 8, 1, b""),
-        (15, 0),
+        Err(Fault::NoRoomForEdit),
         "a store without the kept elements"
     );
     assert_eq!(rt;
         trial.add_in(7, 8, 0, b""),
-        (0, 0),
+        Ok(()),
         "no store is asked for where there is no effect"
     );
     assert_eq!(rt; trial.sizes(), (3, 8));
@@ -221,16 +217,19 @@ fn a_full_store(rt: HostRuntime) -> Result<(), Fail> {
 #[test]
 fn a_store_or_a_buffer_that_is_short(rt: HostRuntime) -> Result<(), Fail> {
     let mut trial = Trial::new(&rt)?;
-    assert_eq!(rt; trial.add(1, 1, b"xyz"), (0, 0));
+    assert_eq!(rt; trial.add(1, 1, b"xyz"), Ok(()));
     assert_eq!(rt;
         trial.make_in(2, 6, b"abcde"),
-        (15, 0),
+        Err(Fault::NoRoomForEdit),
         "15 is tested before 16"
     );
-    assert_eq!(rt; trial.make_in(3, 6, b"abcde"), (16, 7));
+    assert_eq!(rt;
+        trial.make_in(3, 6, b"abcde"),
+        Err(Fault::BufferTooShort(7))
+    );
     trial.holds(&rt, b"xyz     ", b"................")?;
     assert_eq!(rt; trial.sizes(), (1, 3));
-    assert_eq!(rt; trial.make_in(3, 7, b"abcde"), (0, 7));
+    assert_eq!(rt; trial.make_in(3, 7, b"abcde"), Ok(7));
     trial.holds(&rt, b"xyz     ", b"axyzcde.........")?;
     assert_eq!(rt; trial.sizes(), (0, 0));
     Ok(())
@@ -239,11 +238,11 @@ fn a_store_or_a_buffer_that_is_short(rt: HostRuntime) -> Result<(), Fail> {
 #[test]
 fn runs_that_touch(rt: HostRuntime) -> Result<(), Fail> {
     let mut trial = Trial::new(&rt)?;
-    assert_eq!(rt; trial.add(5, 1, b"y"), (0, 0));
-    assert_eq!(rt; trial.add(2, 3, b"x"), (0, 0));
+    assert_eq!(rt; trial.add(5, 1, b"y"), Ok(()));
+    assert_eq!(rt; trial.add(2, 3, b"x"), Ok(()));
     assert_eq!(rt;
         trial.make(b"abcdefghi"),
-        (0, 7),
+        Ok(7),
         "5 is the first element behind the run"
     );
     trial.holds(&rt, b"xy      ", b"abxyghi.........")
@@ -252,48 +251,48 @@ fn runs_that_touch(rt: HostRuntime) -> Result<(), Fail> {
 #[test]
 fn runs_that_overlap(rt: HostRuntime) -> Result<(), Fail> {
     let mut trial = Trial::new(&rt)?;
-    assert_eq!(rt; trial.add(2, 3, b""), (0, 0));
-    assert_eq!(rt; trial.add(4, 0, b"y"), (0, 0));
-    assert_eq!(rt; trial.make(b"abcdefghi"), (14, 1));
-    assert_eq!(rt; trial.add(9, 1, b""), (0, 0));
+    assert_eq!(rt; trial.add(2, 3, b""), Ok(()));
+    assert_eq!(rt; trial.add(4, 0, b"y"), Ok(()));
+    assert_eq!(rt; trial.make(b"abcdefghi"), Err(Fault::EditInsideRemoval(1)));
+    assert_eq!(rt; trial.add(9, 1, b""), Ok(()));
     assert_eq!(rt;
         trial.make(b"abcdefghi"),
-        (13, 2),
+        Err(Fault::EditOutOfRange(2)),
         "13 is tested over all edits first"
     );
     assert_eq!(rt; trial.sizes(), (3, 1));
     trial.map.clear();
-    assert_eq!(rt; trial.make(b"abcdefghi"), (0, 9));
+    assert_eq!(rt; trial.make(b"abcdefghi"), Ok(9));
     Ok(())
 }
 
 #[test]
 fn two_adds_at_a_place(rt: HostRuntime) -> Result<(), Fail> {
     let mut trial = Trial::new(&rt)?;
-    assert_eq!(rt; trial.add(3, 0, b"|"), (0, 0));
-    assert_eq!(rt; trial.add(1, 1, b"12"), (0, 0));
-    assert_eq!(rt; trial.add(1, 1, b"34"), (0, 0));
-    assert_eq!(rt; trial.make(b"abcd"), (0, 7));
+    assert_eq!(rt; trial.add(3, 0, b"|"), Ok(()));
+    assert_eq!(rt; trial.add(1, 1, b"12"), Ok(()));
+    assert_eq!(rt; trial.add(1, 1, b"34"), Ok(()));
+    assert_eq!(rt; trial.make(b"abcd"), Ok(7));
     trial.holds(&rt, b"1234|   ", b"a1234|d.........")?;
-    assert_eq!(rt; trial.add(3, 0, b"|"), (0, 0));
-    assert_eq!(rt; trial.add_before(1, 1, b"12"), (0, 0));
-    assert_eq!(rt; trial.add_before(1, 1, b"34"), (0, 0));
-    assert_eq!(rt; trial.make(b"abcd"), (0, 7));
+    assert_eq!(rt; trial.add(3, 0, b"|"), Ok(()));
+    assert_eq!(rt; trial.add_before(1, 1, b"12"), Ok(()));
+    assert_eq!(rt; trial.add_before(1, 1, b"34"), Ok(()));
+    assert_eq!(rt; trial.make(b"abcd"), Ok(7));
     trial.holds(&rt, b"3412|   ", b"a3412|d.........")
 }
 
 #[test]
 fn an_add_and_one_before_it(rt: HostRuntime) -> Result<(), Fail> {
     let mut trial = Trial::new(&rt)?;
-    assert_eq!(rt; trial.add_before(1, 1, b"12"), (0, 0));
-    assert_eq!(rt; trial.add(1, 1, b"34"), (0, 0));
-    assert_eq!(rt; trial.add(0, 0, b"|"), (0, 0));
-    assert_eq!(rt; trial.make(b"abcd"), (0, 7));
+    assert_eq!(rt; trial.add_before(1, 1, b"12"), Ok(()));
+    assert_eq!(rt; trial.add(1, 1, b"34"), Ok(()));
+    assert_eq!(rt; trial.add(0, 0, b"|"), Ok(()));
+    assert_eq!(rt; trial.make(b"abcd"), Ok(7));
     trial.holds(&rt, b"|1234   ", b"|a1234d.........")?;
-    assert_eq!(rt; trial.add(1, 1, b"12"), (0, 0));
-    assert_eq!(rt; trial.add_before(1, 1, b"34"), (0, 0));
-    assert_eq!(rt; trial.add_before(0, 0, b"|"), (0, 0));
-    assert_eq!(rt; trial.make(b"abcd"), (0, 7));
+    assert_eq!(rt; trial.add(1, 1, b"12"), Ok(()));
+    assert_eq!(rt; trial.add_before(1, 1, b"34"), Ok(()));
+    assert_eq!(rt; trial.add_before(0, 0, b"|"), Ok(()));
+    assert_eq!(rt; trial.make(b"abcd"), Ok(7));
     trial.holds(&rt, b"|3412   ", b"|a3412d.........")
 }
 
@@ -302,13 +301,10 @@ fn elements_other_than_bytes(rt: HostRuntime) -> Result<(), Fail> {
     let mut map = EditMap::new(rt.alloc())?;
     let mut store = [(0u32, 'a'); 4];
     let mut out = [(0u32, 'a'); 4];
+    assert_eq!(rt; map.add(&mut store, 1, 1, &[(7, 'x'), (8, 'y')]), Ok(()));
     assert_eq!(rt;
-        told(map.add(&mut store, 1, 1, &[(7, 'x'), (8, 'y')])),
-        (0, 0)
-    );
-    assert_eq!(rt;
-        told_size(map.consume(&store, &[(1, 'b'), (2, 'c'), (3, 'd')], &mut out)),
-        (0, 4)
+        map.consume(&store, &[(1, 'b'), (2, 'c'), (3, 'd')], &mut out),
+        Ok(4)
     );
     assert_eq!(rt; out[1], (7, 'x'));
     assert_eq!(rt; out[2], (8, 'y'));
