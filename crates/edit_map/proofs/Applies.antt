@@ -49,8 +49,8 @@ module _ {A : Type 0} (es : List Entry) (store list old : List A) where
       pub forward : from ≤ here.place
       pub run : here.place + here.count ≤ length list
       pub taken : used + here.size ≤ length store
-      pub first : end + (here.place - from) ≤ length out
-      pub both : end + (here.place - from) + here.size ≤ length out
+      pub first : end + length (take (here.place - from) (drop from list)) ≤ length out
+      pub both : end + length (take (here.place - from) (drop from list)) + length (take (used + here.size - used) (drop used store)) ≤ length out
 
     pub turn : Turn
     turn =
@@ -59,6 +59,8 @@ module _ {A : Type 0} (es : List Entry) (store list old : List A) where
         let r = applied_from (here.place + here.count) (edits (drop (k + 1) es) (drop here.size (drop used store))) (drop (here.place - from + here.count) (drop from list)) in
         let la : length a ≡ here.place - from = length-take-le (here.place - from) (drop from list) (simp length-drop (omega (arith, order.0, order.1))) in
         let lb : length b ≡ here.size = length-take-le here.size (drop used store) (simp length-drop (omega (arith, stored))) in
+        let size : used + here.size - used ≡ here.size = omega arith in
+        let lb' : length (take (used + here.size - used) (drop used store)) ≡ length (take here.size (drop used store)) = ap (λ n. length (take n (drop used store))) size in
         let le : length (take end out) ≡ end = length-take-le end out left.far in
         let sum = ap length whole in
         let s₁ = length-append (take end out) (a ++ (b ++ r)) in
@@ -66,7 +68,7 @@ module _ {A : Type 0} (es : List Entry) (store list old : List A) where
         let s₃ = length-append b r in
         record { forward = order.0; run = order.1; taken = omega (arith, stored); first = omega (arith, left.same); both = omega (arith, left.same) }
 
-    more-at : (end₁ end₂ : ℕ) (out₁ out₂ : List A) → end₁ ≡ end + (here.place - from) → take end₁ out₁ ≡ take end out ++ take (here.place - from) (drop from list) → drop end₁ out₁ ≡ drop end₁ out → length out₁ ≡ length out → end₂ ≡ end₁ + (used + here.size - used) → take end₂ out₂ ≡ take end₁ out₁ ++ take (used + here.size - used) (drop used store) → drop end₂ out₂ ≡ drop end₂ out₁ → length out₂ ≡ length out₁ → Left (k + 1) (here.place + here.count) (used + here.size) end₂ out₂
+    more-at : (end₁ end₂ : ℕ) (out₁ out₂ : List A) → end₁ ≡ end + length (take (here.place - from) (drop from list)) → take end₁ out₁ ≡ take end out ++ take (here.place - from) (drop from list) → drop end₁ out₁ ≡ drop end₁ out → length out₁ ≡ length out → end₂ ≡ end₁ + length (take (used + here.size - used) (drop used store)) → take end₂ out₂ ≡ take end₁ out₁ ++ take (used + here.size - used) (drop used store) → drop end₂ out₂ ≡ drop end₂ out₁ → length out₂ ≡ length out₁ → Left (k + 1) (here.place + here.count) (used + here.size) end₂ out₂
     more-at end₁ end₂ out₁ out₂ at₁ front₁ tail₁ same₁ at₂ front₂ tail₂ same₂ =
         let t = turn in
         let a = take (here.place - from) (drop from list) in
@@ -87,7 +89,7 @@ module _ {A : Type 0} (es : List Entry) (store list old : List A) where
           tail = tail₂ ∙ drop-on end₁ end₂ out₁ out (omega arith) tail₁ ∙ drop-on end end₂ out old (omega arith) left.tail;
         }
 
-    pub more : (from₁ end₁ end₂ : ℕ) (out₁ out₂ : List A) → from₁ ≡ here.place + here.count → end₁ ≡ end + (here.place - from) → take end₁ out₁ ≡ take end out ++ take (here.place - from) (drop from list) → drop end₁ out₁ ≡ drop end₁ out → length out₁ ≡ length out → end₂ ≡ end₁ + (used + here.size - used) → take end₂ out₂ ≡ take end₁ out₁ ++ take (used + here.size - used) (drop used store) → drop end₂ out₂ ≡ drop end₂ out₁ → length out₂ ≡ length out₁ → Left (k + 1) from₁ (used + here.size) end₂ out₂
+    pub more : (from₁ end₁ end₂ : ℕ) (out₁ out₂ : List A) → from₁ ≡ here.place + here.count → end₁ ≡ end + length (take (here.place - from) (drop from list)) → take end₁ out₁ ≡ take end out ++ take (here.place - from) (drop from list) → drop end₁ out₁ ≡ drop end₁ out → length out₁ ≡ length out → end₂ ≡ end₁ + length (take (used + here.size - used) (drop used store)) → take end₂ out₂ ≡ take end₁ out₁ ++ take (used + here.size - used) (drop used store) → drop end₂ out₂ ≡ drop end₂ out₁ → length out₂ ≡ length out₁ → Left (k + 1) from₁ (used + here.size) end₂ out₂
     more from₁ end₁ end₂ out₁ out₂ is at₁ front₁ tail₁ same₁ at₂ front₂ tail₂ same₂ =
         subst (λ (f : ℕ). Left (k + 1) f (used + here.size) end₂ out₂) (sym is) (more-at end₁ end₂ out₁ out₂ at₁ front₁ tail₁ same₁ at₂ front₂ tail₂ same₂)
 
@@ -100,18 +102,22 @@ module _ {A : Type 0} (es : List Entry) (store list old : List A) where
     last : take end out ++ drop from list ≡ applied (edits es store) list
     last = ap (λ l. take end out ++ applied_from from (edits l (drop used store)) (drop from list)) (sym (drop_all k es all)) ∙ left.whole
 
-    pub last_room : length (applied (edits es store) list) ≤ length old → end + (length list - from) ≤ length out
+    last_part : take (length list - from) (drop from list) ≡ drop from list
+    last_part = take_all (length list - from) (drop from list) (simp length-drop (omega arith))
+
+    pub last_room : length (applied (edits es store) list) ≤ length old → end + length (take (length list - from) (drop from list)) ≤ length out
     last_room room =
+        let rest = ap length last_part in
         let sum = ap length last in
         let s₁ = length-append (take end out) (drop from list) in
         let s₂ = length-drop from list in
         let s₃ = length-take-le end out left.far in
         omega (arith, left.same)
 
-    pub finish : (end₁ : ℕ) (out₁ : List A) → end₁ ≡ end + (length list - from) → take end₁ out₁ ≡ take end out ++ take (length list - from) (drop from list) → drop end₁ out₁ ≡ drop end₁ out → Done end₁ out₁
+    pub finish : (end₁ : ℕ) (out₁ : List A) → end₁ ≡ end + length (take (length list - from) (drop from list)) → take end₁ out₁ ≡ take end out ++ take (length list - from) (drop from list) → drop end₁ out₁ ≡ drop end₁ out → Done end₁ out₁
     finish end₁ out₁ at front tail =
-        let rest : take (length list - from) (drop from list) ≡ drop from list = take_all (length list - from) (drop from list) (simp length-drop (omega arith)) in
-        let whole = front ∙ ap (λ l. take end out ++ l) rest ∙ last in
+        let rest = ap length last_part in
+        let whole = front ∙ ap (λ l. take end out ++ l) last_part ∙ last in
         let sum = ap length last in
         let s₁ = length-append (take end out) (drop from list) in
         let s₂ = length-drop from list in

@@ -90,14 +90,8 @@ module _ {A : Type 0} where
 
   -- ---- a part written over a part
 
-  pub over_front : (out list new : List A) (from to at : ℕ) → from ≤ to → to ≤ length list → at + (to - from) ≤ length out → new ≡ take (to - from) (drop from list) → take (at + (to - from)) (put_mid at (at + (to - from) - at) out new) ≡ take at out ++ take (to - from) (drop from list)
-  over_front out list new from to at order in_List room is =
-      let long : length (take (to - from) (drop from list)) ≡ to - from = simp (length-take, length-drop) (omega arith) in
-      let same = ap length is in
-      take-put_mid at (at + (to - from) - at) out new (at + (to - from)) (omega arith) (omega arith) ∙ ap (λ l. take at out ++ l) is
+  pub over_front : (out part : List A) (at : ℕ) → at + length part ≤ length out → take (at + length part) (put_mid at (at + length part - at) out part) ≡ take at out ++ part
+  over_front out part at room = take-put_mid at (at + length part - at) out part (at + length part) (omega arith) (omega arith)
 
-  pub over-rest : (out list new : List A) (from to at : ℕ) → from ≤ to → to ≤ length list → at + (to - from) ≤ length out → new ≡ take (to - from) (drop from list) → drop (at + (to - from)) (put_mid at (at + (to - from) - at) out new) ≡ drop (at + (to - from)) out
-  over-rest out list new from to at order in_List room is =
-      let long : length (take (to - from) (drop from list)) ≡ to - from = simp (length-take, length-drop) (omega arith) in
-      let same = ap length is in
-      drop-put_mid at (at + (to - from) - at) out new (at + (to - from)) (omega arith) (omega arith) (omega arith)
+  pub over-rest : (out part : List A) (at : ℕ) → at + length part ≤ length out → drop (at + length part) (put_mid at (at + length part - at) out part) ≡ drop (at + length part) out
+  over-rest out part at room = drop-put_mid at (at + length part - at) out part (at + length part) (omega arith) (omega arith) (omega arith)

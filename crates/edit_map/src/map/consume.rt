@@ -126,10 +126,10 @@ fn apply<T: Copy>(entries: &[Entry], store: &[T], list: &[T], out: &mut [T]) -> 
     let mut used = 0;
     let mut end = 0;
     for entry in entries {
-        end = copy_part(list, from, entry.place, out, end);
-        end = copy_part(store, used, used + entry.size, out, end);
+        end = copy_part(&list[from..entry.place], out, end);
+        end = copy_part(&store[used..used + entry.size], out, end);
         from = entry.end();
         used += entry.size;
     }
-    copy_part(list, from, list.len(), out, end)
+    copy_part(&list[from..], out, end)
 }

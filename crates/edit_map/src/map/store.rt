@@ -1,5 +1,5 @@
 // Moves of elements between lent slices.
-ghost use Rattle.std.specs.Prelude.{◌≡◌, ◌+◌, ◌-◌, ◌≤◌, ◌++◌, length, take, drop};
+ghost use Rattle.std.specs.Prelude.{◌≡◌, ◌+◌, ◌≤◌, ◌++◌, length, take, drop};
 ghost use Rattle.edit_map.specs.Entries.{spliced};
 
 // Puts elements in before the element `at` of the first `used` of a store, which has room for them.
@@ -13,22 +13,14 @@ pub(crate) fn splice<T: Copy>(store: &mut [T], used: usize, at: usize, elements:
     store[at..at + count].copy_from_slice(elements);
 }
 
-// Writes the elements `from` to `to` - 1 of a list over those of `out` from `at` on, and answers where they end.
-pub(crate) fn copy_part<T: Copy>(
-    list: &[T],
-    from: usize,
-    to: usize,
-    out: &mut [T],
-    at: usize,
-) -> usize
-    requires order { from ≤ to }
-    requires within { to ≤ length list.now }
-    requires room { at + (to - from) ≤ length out.old }
-    ensures end { result ≡ at + (to - from) }
-    ensures written { take result out.new ≡ take at out.old ++ take (to - from) (drop from list.now) }
+// Writes a part over the elements of `out` from `at` on, and answers where it ends.
+pub(crate) fn copy_part<T: Copy>(part: &[T], out: &mut [T], at: usize) -> usize
+    requires { at + length part.now ≤ length out.old }
+    ensures end { result ≡ at + length part.now }
+    ensures written { take result out.new ≡ take at out.old ++ part.now }
     ensures rest { drop result out.new ≡ drop result out.old }
 {
-    let end = at + (to - from);
-    out[at..end].copy_from_slice(&list[from..to]);
+    let end = at + part.len();
+    out[at..end].copy_from_slice(part);
     end
 }

@@ -8,7 +8,7 @@ loop-entry-init g c = start c.args.entries.now c.args.store.now c.args.list.now 
 pub copy_part-end-requires : goal.copy_part-end-requires
 copy_part-end-requires g c =
     let t = turn c.args.entries.now c.args.store.now c.args.list.now c.args.out.now c.loop-entry.entry-index c.loop-entry.from c.loop-entry.used c.loop-entry.end c.loop-entry.out c.loop-entry-test.true c.requires.room c.loop-entry.invariant in
-    record { order = t.forward; within = omega (arith, t.run); room = t.first }
+    t.first
 
 pub overflow_add-used : goal.overflow_add-used
 overflow_add-used g c =
@@ -18,7 +18,7 @@ overflow_add-used g c =
 pub copy_part-end-requires-in-loop-entry : goal.copy_part-end-requires-in-loop-entry
 copy_part-end-requires-in-loop-entry g c =
     let t = turn c.args.entries.now c.args.store.now c.args.list.now c.args.out.now c.loop-entry.entry-index c.loop-entry.from c.loop-entry.used c.loop-entry.end c.loop-entry.out c.loop-entry-test.true c.requires.room c.loop-entry.invariant in
-    record { order = omega arith; within = t.taken; room = omega (arith, t.both, c.copy_part-end.ensures.end, c.copy_part-end.auto.out) }
+    omega (arith, t.both, c.copy_part-end.ensures.end, c.copy_part-end.auto.out)
 
 pub end-from-requires : goal.end-from-requires
 end-from-requires g c =
@@ -38,11 +38,7 @@ loop-entry-preserved g c =
     _ _ _ _ _ c.end-from.ensures first.end first.written first.rest c.copy_part-end.auto.out second.end second.written second.rest c.copy_part-end-in-loop-entry.auto.out
 
 pub copy_part-requires : goal.copy_part-requires
-copy_part-requires g c = record {
-  order = c.loop-entry.invariant.within;
-  within = omega arith;
-  room = last_room c.args.entries.now c.args.store.now c.args.list.now c.args.out.now c.loop-entry.entry-index c.loop-entry.from c.loop-entry.used c.loop-entry.end c.loop-entry.out (omega arith) c.loop-entry.invariant c.requires.room;
-}
+copy_part-requires g c = last_room c.args.entries.now c.args.store.now c.args.list.now c.args.out.now c.loop-entry.entry-index c.loop-entry.from c.loop-entry.used c.loop-entry.end c.loop-entry.out (omega arith) c.loop-entry.invariant c.requires.room
 
 pub returns : goal.returns
 returns g c =
