@@ -3,15 +3,14 @@
 use Rattle.std.proofs.Common.{◌≡◌, ℕ, suc, ◌+◌, ◌<◌, ◌≤◌, false, cond, ltb, List, [], ◌∷◌, length, get_or, drop, Ok, Err, Result, Some, None, Option, sym, refl, ap, ◌∙◌, ⊎_elim, arith}
 use Rattle.std.proofs.lemmas.List.{at_drop_more, at_drop_all}
 use Rattle.std.proofs.lemmas.Bool.{cond-true, cond-false, lt-ltb, le-ltb, ltb-true, ltb-false, cases_Bool}
-use Rattle.std.specs.List.{sum_by, position, position_or_len}
+use Rattle.std.specs.List.{position, position_or_len}
 use Rattle.std.proofs.lemmas.List.Recursion.{is_position_or_len}
-use Rattle.std.proofs.lemmas.List.Sums.{sum_by-cons}
 use Rattle.text.specs.declared.refusals.Fault.{Fault}
 use Rattle.text.specs.declared.refusals.Fault.TheVariants.{EditOutOfRange, EditInsideRemoval, NoRoomForEdit}
 use Rattle.edit_map.specs.declared.entries.Entry.{Entry}
 use Rattle.edit_map.specs.Edits.{Edit, past_end, inside_removal, IsRank, consume_check}
 use Rattle.edit_map.specs.Entries.{entry, edits, bare}
-use Rattle.edit_map.specs.Laws.{InOrder, removed}
+use Rattle.edit_map.specs.Laws.{InOrder}
 use Rattle.edit_map.proofs.Adds.{length-edits}
 use Rattle.edit_map.proofs.Lengths.{in_order}
 
@@ -28,10 +27,6 @@ past_end-bare len (e ∷ es) s = ap (λ n. cond (ltb len (e.place + e.count)) 0 
 inside-bare : {A : Type 0} (from : ℕ) (es : List Entry) (s : List A) → inside_removal from (bare es) ≡ inside_removal from (edits es s)
 inside-bare from [] s = refl
 inside-bare from (e ∷ es) s = ap (λ n. cond (ltb e.place from) 0 (suc n)) (inside-bare (e.place + e.count) es (drop e.size s))
-
-pub removed-bare : {A : Type 0} (es : List Entry) (s : List A) → removed (bare es) ≡ removed (edits es s)
-removed-bare [] s = refl
-removed-bare (e ∷ es) s = ap (λ n. e.count + n) (removed-bare es (drop e.size s))
 
 pub check_bare : {A : Type 0} (room kept len : ℕ) (es : List Entry) (s : List A) → consume_check room kept len (bare es) ≡ consume_check room kept len (edits es s)
 check_bare {A} room kept len es s = λ i. answer room kept (past_end-bare len es s i) (inside-bare 0 es s i) (◌∙◌ (length-bare es) (sym (length-edits es s)) i)
@@ -67,10 +62,6 @@ module _ (es : List Entry) (i : ℕ) (lt : i < length es) where
 
 pub inside-all : (es : List Entry) (from i : ℕ) → length es ≤ i → inside_removal from (bare (drop i es)) ≡ 0
 inside-all es from i h = at_drop_all (λ l. inside_removal from (bare l)) es i h
-
-pub removed_sum : (es : List Entry) → removed (bare es) ≡ sum_by (λ e. e.count) es
-removed_sum [] = refl
-removed_sum (e ∷ es) = omega (arith, removed_sum es, sum_by-cons (λ (e : Entry). e.count) e es)
 
 -- ---- the first edit past the end, as the library finds it
 

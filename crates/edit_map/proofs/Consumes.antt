@@ -1,7 +1,9 @@
 -- Which way the call ends that makes the edits.
 -- Assumes nothing.
 use Rattle.std.proofs.Common.{◌≡◌, ℕ, ◌+◌, ◌-◌, ◌<◌, ◌≤◌, min, List, [], ◌∷◌, ◌++◌, length, drop, IfOk, IfErr, Ok, Err, Result, sym, refl, ap, ◌∙◌, subst, ⊎_elim, arith}
+use Rattle.std.specs.List.{sum_by}
 use Rattle.std.proofs.lemmas.List.{length-take-le, length-drop}
+use Rattle.std.proofs.lemmas.List.Sums.{sum_by-cons}
 use Rattle.std.proofs.lemmas.Bool.{cond-true, cond-false, le-leb, lt-leb, cases_Bool}
 use Rattle.text.specs.declared.refusals.Fault.{Fault}
 use Rattle.text.specs.declared.refusals.Fault.TheVariants.{BufferTooShort}
@@ -12,7 +14,7 @@ use Rattle.edit_map.specs.Edits.{applied, needed, consume_check, size_answer, un
 use Rattle.edit_map.specs.Entries.{total, edits, bare}
 use Rattle.edit_map.specs.Laws.{InOrder, removed, stored, one_at_a_time, ValuesKept, OrderKept}
 use Rattle.edit_map.specs.View.{entries_of, kept_count, edits_of, AsNew}
-use Rattle.edit_map.proofs.Checks.{check_bare, passed, removed-bare}
+use Rattle.edit_map.proofs.Checks.{check_bare, passed}
 use Rattle.edit_map.proofs.Lengths.{length-applied, removed-within, as_one_at_a_time, values_kept, order_kept}
 
 -- ---- how many elements are needed
@@ -23,13 +25,16 @@ stored-edits (e ∷ es) s h =
     let fits : total es ≤ length (drop e.size s) = simp length-drop (omega arith) in
     (λ i. length-take-le e.size s (omega arith) i + stored-edits es (drop e.size s) fits i)
 
-pub new-length : {A : Type 0} (es : List Entry) (s list : List A) → InOrder 0 (length list) (edits es s) → total es ≤ length s → length (applied (edits es s) list) ≡ length list - removed (bare es) + total es
-new-length es s list order h =
-    let e = length-applied (edits es s) list order in
-    let a = stored-edits es s h in
-    let b = removed-bare es s in
-    let c = removed-within 0 (length list) (edits es s) (omega arith) order in
-    omega arith
+removed-sum : {A : Type 0} (es : List Entry) (s : List A) → removed (edits es s) ≡ sum_by (λ e. e.count) es
+removed-sum [] s = refl
+removed-sum (e ∷ es) s = omega (arith, removed-sum es (drop e.size s), sum_by-cons (λ (e : Entry). e.count) e es)
+
+module _ {A : Type 0} (es : List Entry) (s list : List A) (order : InOrder 0 (length list) (edits es s)) where
+  pub removed_fits : sum_by (λ e. e.count) es ≤ length list
+  removed_fits = omega (arith, removed-sum es s, removed-within 0 (length list) (edits es s) (omega arith) order)
+
+  pub new-length : total es ≤ length s → length (applied (edits es s) list) ≡ length list - sum_by (λ e. e.count) es + total es
+  new-length h = omega (arith, length-applied (edits es s) list order, stored-edits es s h, removed-sum es s, removed_fits)
 
 module _ {A : Type 0} (xs out : List A) where
   pub short : (n : ℕ) → n ≡ length xs → n < 18446744073709551616 → length out < n → Err (BufferTooShort n) ≡ size_answer xs out

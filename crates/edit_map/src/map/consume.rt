@@ -71,15 +71,13 @@ impl EditMap {
         ensures written { out.new ≡ after result (overwritten (applied (edits_of self.now store.now) list.now) out.old) out.old }
     {
         let stays = list.len() - removed_count(&self.entries);
-        match stays.checked_add(self.kept) {
-            Some(needed) => {
-                if needed > out.len() {
-                    return Err(Fault::BufferTooShort(needed));
-                }
-                Ok(apply(&self.entries, store, list, out))
-            }
-            None => Err(Fault::BufferTooShort(usize::MAX)),
+        let Some(needed) = stays.checked_add(self.kept) else {
+            return Err(Fault::BufferTooShort(usize::MAX));
+        };
+        if needed > out.len() {
+            return Err(Fault::BufferTooShort(needed));
         }
+        Ok(apply(&self.entries, store, list, out))
     }
 }
 

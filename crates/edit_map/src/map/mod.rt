@@ -20,6 +20,7 @@ pub const HIGHEST: usize = 4096;
 // order of the edits; the caller lends that store to each call, and the same one until the edits are made.
 #[derive(Drop)]
 pub struct EditMap {
+    // Kept: a sorted Vec that `new` reserves, and no BTreeMap, since no call after `new` allocates.
     entries: Vec<Entry>,
     kept: usize,
     ghost reserved: { 1024 ≤ vec_capacity entries },
