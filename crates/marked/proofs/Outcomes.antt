@@ -1,6 +1,6 @@
 -- The ends of the call that writes the marked copy of a note.
 -- Assumes nothing.
-use Rattle.std.proofs.Common.{◌≡◌, ℕ, ◌+◌, ◌-◌, ◌*◌, ◌≤◌, Bool, true, false, cond, leb, List, [], ◌∷◌, ◌++◌, length, take, drop, IfOk, IfErr, Ok, Err, Result, sym, refl, ap, ◌∙◌, subst, ⊎_elim, arith}
+use Rattle.std.proofs.Common.{◌≡◌, ℕ, ◌+◌, ◌*◌, ◌≤◌, Bool, true, false, cond, leb, List, [], ◌∷◌, ◌++◌, length, take, drop, IfOk, IfErr, Ok, Err, Result, sym, refl, ap, ◌∙◌, subst, ⊎_elim, arith}
 use Rattle.std.proofs.lemmas.List.{take_at}
 use Rattle.std.proofs.lemmas.Bool.{cond-true, cond-false, leb-true, leb-false, le-leb, ltb-false}
 use Rattle.text.specs.declared.refusals.Fault.{Fault}
@@ -106,15 +106,14 @@ module _ (m : EditMap) (s out : List ℕ) (k : Known s) where
 pub record Found (s : List ℕ) (n : ℕ) (found : List Span) : Type 0 where
   pub not_long : too_long s ≡ false
   pub count : n ≡ length (note_addresses s)
-  pub spans : take (n - 0) found ≡ note_addresses s
+  pub spans : take n found ≡ note_addresses s
 
 found_as : (s : List ℕ) (lent out : List Span) (n : ℕ) (long short : Bool) → too_long s ≡ long → Ok n ≡ cond long (Err NoteTooLong) (cond short (Ok (length (note_addresses s))) (Err (BufferTooShort (length (note_addresses s))))) → out ≡ cond long lent (cond short (note_addresses s ++ drop (length (note_addresses s)) lent) lent) → Found s n out
 found_as s lent out n true short l e w = not_both n NoteTooLong e
 found_as s lent out n false false l e w = not_both n (BufferTooShort (length (note_addresses s))) e
 found_as s lent out n false true l e w =
     let same : n ≡ length (note_addresses s) = cc in
-    let count : length (note_addresses s) ≡ n - 0 = omega (arith, same) in
-    record { not_long = l; count = same; spans = ap (take (n - 0)) w ∙ take_at (note_addresses s) (drop (length (note_addresses s)) lent) (n - 0) count }
+    record { not_long = l; count = same; spans = ap (take n) w ∙ take_at (note_addresses s) (drop (length (note_addresses s)) lent) n (sym same) }
 
 pub found : (s : List ℕ) (lent out : List Span) (n : ℕ) → Ok n ≡ note_answer s lent → out ≡ note_written s lent → Found s n out
 found s lent out n e w = found_as s lent out n (too_long s) (leb (length (note_addresses s)) (length lent)) refl e w
@@ -130,7 +129,7 @@ pub record Ready (s : List ℕ) (ys : List Span) (out : List ℕ) : Type 0 where
   pub turn : IsInTurn 0 (length s) ys
   pub room : length (marked_copy s ys) ≤ length out
 
-pub ready : (s : List ℕ) (n j : ℕ) (lent : List Span) (out : List ℕ) → Known s → Found s n lent → Ok j ≡ room_for (length s + 3 * n) (length out) → Ready s (take (n - 0) lent) out
+pub ready : (s : List ℕ) (n j : ℕ) (lent : List Span) (out : List ℕ) → Known s → Found s n lent → Ok j ≡ room_for (length s + 3 * n) (length out) → Ready s (take n lent) out
 ready s n j lent out k f e =
     let le = enough_as (length s + 3 * n) (length out) j (leb (length s + 3 * n) (length out)) refl e in
     let low : length s ≤ 1024 = ltb-false 1024 (length s) f.not_long in

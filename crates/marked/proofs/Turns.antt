@@ -1,14 +1,15 @@
 -- Marks put into a map, one after another: none is refused.
 -- Assumes nothing.
-use Rattle.std.proofs.Common.{◌≡◌, ℕ, zero, suc, ◌+◌, ◌*◌, ◌<◌, ◌≤◌, false, ◌||◌, eqb, ltb, List, [], ◌∷◌, length, get_or, drop, Ok, sym, ap, ◌∙◌, subst, ⊎_elim, arith}
-use Rattle.std.proofs.lemmas.List.{length-drop, drop_more, drop_all}
+use Rattle.std.proofs.Common.{◌≡◌, ℕ, ◌+◌, ◌*◌, ◌<◌, ◌≤◌, false, ◌||◌, eqb, ltb, List, [], ◌∷◌, ◌++◌, length, Ok, sym, ap, ◌∙◌, subst, ⊎_elim, arith}
+use Rattle.std.proofs.lemmas.List.{append_assoc, length-append}
 use Rattle.std.proofs.lemmas.Bool.{cond-false, le-ltb, eqb-true, cases_Bool}
+use Rattle.std.specs.List.{push}
 use Rattle.text.specs.declared.spans.Span.{Span}
 use Rattle.edit_map.specs.declared.entries.Side.TheVariants.{Front}
 use Rattle.edit_map.specs.Edits.{Edit, put, idle, count_at, added_before, add_answer}
 use Rattle.edit_map.specs.Laws.{InOrder}
 use Rattle.marked.specs.Marked.{closing}
-use Rattle.marked.specs.Marks.{IsInTurn, with_marks, marks}
+use Rattle.marked.specs.Marks.{IsInTurn, marks}
 use Rattle.marked.proofs.Puts.{put_first, earlier, count_small, marks_of}
 
 -- ---- one mark
@@ -40,34 +41,33 @@ second from to es new forward high o few is =
 
 -- ---- a loop over the spans, from the last to the first
 
-at-span : (c len : ℕ) (xs : List Span) (i : ℕ) (d : Span) → IsInTurn c len xs → i < length xs → ((get_or xs i d).from ≤ (get_or xs i d).to) × ((get_or xs i d).to ≤ len) × IsInTurn (get_or xs i d).to len (drop (suc i) xs)
-at-span c len [] i d t lt = absurd (omega arith)
-at-span c len (x ∷ xs) zero d t lt = (t.1, t.2, t.3)
-at-span c len (x ∷ xs) (suc i) d t lt = at-span x.to len xs i d t.3 (omega arith)
+at-span : (c len : ℕ) (before : List Span) (x : Span) (done : List Span) → IsInTurn c len (before ++ (x ∷ done)) → (x.from ≤ x.to) × (x.to ≤ len) × IsInTurn x.to len done
+at-span c len [] x done t = (t.1, t.2, t.3)
+at-span c len (b ∷ before) x done t = at-span b.to len before x done t.3
 
-pub record Turn (xs : List Span) (i : ℕ) (d : Span) (es : List (Edit ℕ)) (kept room : ℕ) : Type 0 where
-  pub forward : ((get_or xs i d).from ≤ (get_or xs i d).to) × ((get_or xs i d).to ≤ 1024)
-  pub order : InOrder (get_or xs i d).to 1024 es
+-- what the marks of x ask, where those of the spans behind it are put
+pub record Turn (x : Span) (es : List (Edit ℕ)) (kept room : ℕ) : Type 0 where
+  pub forward : (x.from ≤ x.to) × (x.to ≤ 1024)
+  pub order : InOrder x.to 1024 es
   pub few : length es + 2 ≤ 1024
   pub fits : kept + 3 ≤ room
-  pub next : with_marks (get_or xs i d) es ≡ marks (drop i xs)
 
-pub turn : (xs : List Span) (left i : ℕ) (d : Span) (es : List (Edit ℕ)) (kept room : ℕ) → IsInTurn 0 1024 xs → length xs ≤ 204 → left ≡ suc i → left ≤ length xs → es ≡ marks (drop left xs) → kept + 3 * left ≡ 3 * length xs → room ≡ 612 → Turn xs i d es kept room
-turn xs left i d es kept room t few is within e k r =
-    let x = get_or xs i d in
-    let here = at-span 0 1024 xs i d t (omega arith) in
-    let later : es ≡ marks (drop (suc i) xs) = e ∙ ap (λ n. marks (drop n xs)) is in
-    let more : suc i ≡ i + 1 = omega arith in
-    let lt : i < length xs = omega arith in
-    let m = marks_of x.to 1024 (drop (suc i) xs) here.2 in
-    let short : length (marks (drop (suc i) xs)) + 2 ≤ 1024 = omega (arith, m.few, length-drop (suc i) xs) in
+pub turn : (xs before : List Span) (x : Span) (done : List Span) (es : List (Edit ℕ)) (kept room : ℕ) → IsInTurn 0 1024 xs → length xs ≤ 204 → xs ≡ before ++ (x ∷ done) → es ≡ marks done → kept ≡ 3 * length done → room ≡ 612 → Turn x es kept room
+turn xs before x done es kept room t few all made k r =
+    let here = at-span 0 1024 before x done (subst (IsInTurn 0 1024) all t) in
+    let m = marks_of x.to 1024 done here.2 in
+    let long = ap length all ∙ length-append before (x ∷ done) in
     record {
       forward = (here.0, here.1);
-      order = subst (InOrder x.to 1024) (sym later) m.in_order;
-      few = subst (λ (l : List (Edit ℕ)). length l + 2 ≤ 1024) (sym later) short;
+      order = subst (InOrder x.to 1024) (sym made) m.in_order;
+      few = omega (arith, m.few, ap length made);
       fits = omega arith;
-      next = ap (with_marks x) (later ∙ ap (λ n. marks (drop n xs)) more) ∙ sym (ap marks (drop_more xs i d lt));
     }
 
-pub none_left : (xs : List Span) → marks (drop (length xs) xs) ≡ []
-none_left xs = let le : length xs ≤ length xs = omega arith in ap marks (drop_all (length xs) xs le)
+-- a span is taken from the end of those that are left
+pub one_less : (xs left before : List Span) (x : Span) (done : List Span) → xs ≡ left ++ done → left ≡ push before x → xs ≡ before ++ (x ∷ done)
+one_less xs left before x done all is = all ∙ ap (λ l. l ++ done) is ∙ append_assoc before (x ∷ []) done
+
+pub all_done : (xs left done : List Span) → xs ≡ left ++ done → length left ≡ 0 → xs ≡ done
+all_done xs [] done all none = all
+all_done xs (x ∷ left) done all none = absurd (omega arith)

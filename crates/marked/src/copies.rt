@@ -40,26 +40,11 @@ pub fn mark_addresses(map: &mut EditMap, note: &[u8], out: &mut [u8]) -> Result<
     ensures refused { OnErr result (map.new ≡ map.old) }
     ensures faithful { Faithful note.now }
 {
+    // Kept: fixed arrays of spans and of marks, since the library allocates nothing after `new`.
     let mut spans = [NO_SPAN; MOST_ADDRESSES];
-    mark_with_room(map, note, &mut spans, out)
-}
-
-fn mark_with_room(
-    map: &mut EditMap,
-    note: &[u8],
-    spans: &mut [Span],
-    out: &mut [u8],
-) -> Result<usize, Fault>
-    requires { length spans.old ≡ 204 }
-    ensures answer { result ≡ marked_answer note.now out.old }
-    ensures written { out.new ≡ marked_written note.now out.old }
-    ensures as_new { OnOk result (AsNew map.new) }
-    ensures refused { OnErr result (map.new ≡ map.old) }
-    ensures faithful { Faithful note.now }
-{
-    let count = find_note_addresses(note, spans)?;
+    let count = find_note_addresses(note, &mut spans)?;
     check_room(note.len() + MARK_SIZE * count, out.len())?;
-    write_copy(map, note, &spans[0..count], out)
+    write_copy(map, note, &spans[..count], out)
 }
 
 // Where there is room for the copy.
@@ -93,10 +78,8 @@ fn put_marks(map: &mut EditMap, store: &mut [u8], spans: &[Span]) -> Result<(), 
     ensures edits { edits_of map.new store.new ≡ marks spans.now }
     ensures kept { kept_count map.new ≡ 3 * length spans.now }
 {
-    let mut left = spans.len();
-    while left > 0 {
-        left -= 1;
-        mark_span(map, store, spans[left])?;
+    for span in spans.iter().rev() {
+        mark_span(map, store, *span)?;
     }
     Ok(())
 }
