@@ -68,12 +68,13 @@ fn write_copy(
     map.consume(&store, note, out)
 }
 
+// Kept: no struct of map and store: the proof of `write_copy` then lacks that the map lent to it is the one changed.
 // From the last span to the first: so each mark goes before all that are kept, and an end before a start at its place.
 fn put_marks(map: &mut EditMap, store: &mut [u8], spans: &[Span]) -> Result<(), Fault>
     requires as_new { AsNew map.old }
     requires few { length spans.now ≤ 204 }
     requires in_turn { IsInTurn 0 1024 spans.now }
-    requires room { length store.old ≡ 612 }
+    requires room { 3 * length spans.now ≤ length store.old }
     ensures answer { result ≡ Ok tt }
     ensures edits { edits_of map.new store.new ≡ marks spans.now }
     ensures kept { kept_count map.new ≡ 3 * length spans.now }

@@ -15,22 +15,11 @@ mod tests {
     fn check_copy(rt: &(impl Abort + AllocGlobal), note: &[u8], copy: &[u8]) -> Result<(), Fail> {
         let mut map = EditMap::new(rt.alloc())?;
         let mut out = [b'.'; 40];
-        match mark_addresses(&mut map, note, &mut out) {
-            Ok(count) => {
-                assert_eq!(rt; count, copy.len());
-                assert!(rt; count < 40);
-                if count < 40 {
-                    assert!(rt; &out[0..count] == copy);
-                    assert_eq!(rt; out[count], b'.');
-                }
-                assert!(rt; map.is_empty());
-                Ok(())
-            }
-            Err(_) => {
-                assert!(rt; false);
-                Ok(())
-            },
-        }
+        assert_eq!(rt; mark_addresses(&mut map, note, &mut out), Ok(copy.len()));
+        assert!(rt; out.starts_with(copy));
+        assert_eq!(rt; out.get(copy.len()), Some(&b'.'));
+        assert!(rt; map.is_empty());
+        Ok(())
     }
 
     #[test]
@@ -55,17 +44,17 @@ mod tests {
     fn kept_edits_are_forgotten_only_where_accepted(rt: HostRuntime) -> Result<(), Fail> {
         let mut map = EditMap::new(rt.alloc())?;
         let mut store = [0u8; 4];
-        assert!(rt; map.add(&mut store, 1, 0, b"kept").is_ok());
+        assert_eq!(rt; map.add(&mut store, 1, 0, b"kept"), Ok(()));
         let mut short = [b'.'; 7];
         assert_eq!(rt;
             mark_addresses(&mut map, b"a@b.c", &mut short),
             Err(Fault::BufferTooShort(8))
         );
-        assert!(rt; short == [b'.'; 7]);
+        assert_eq!(rt; short, [b'.'; 7]);
         assert_eq!(rt; map.kept(), 4);
         let mut enough = [b'.'; 8];
         assert_eq!(rt; mark_addresses(&mut map, b"a@b.c", &mut enough), Ok(8));
-        assert!(rt; &enough == b"{ea@b.c}");
+        assert_eq!(rt; &enough, b"{ea@b.c}");
         assert!(rt; map.is_empty());
         Ok(())
     }
@@ -81,7 +70,7 @@ mod tests {
         );
         assert_eq!(rt; out[0], b'.');
         assert_eq!(rt;
-            mark_addresses(&mut map, &note[0..LONGEST_NOTE], &mut out),
+            mark_addresses(&mut map, &note[..LONGEST_NOTE], &mut out),
             Ok(LONGEST_NOTE)
         );
         assert_eq!(rt; out[LONGEST_NOTE - 1], b'a');
