@@ -10,7 +10,7 @@ use Rattle.edit_map.specs.declared.entries.Side.{Side}
 use Rattle.edit_map.specs.declared.entries.Side.TheVariants.{Front, Back}
 use Rattle.edit_map.specs.Entries.{entry, total, edits, well_formed, offset, spliced, At, NoneAt}
 use Rattle.edit_map.specs.Edits.{Edit, edit, joined, put, count_at}
-use Rattle.edit_map.proofs.Ranks.{Here, here, past, Gone, end, before, beyond, here_within, gone_within, here_place, sizes_before, total-set, total_inserted, here_at, here_read, gone_at, wf_set, wf_inserted}
+use Rattle.edit_map.proofs.Ranks.{Here, here, past, Gone, end, before, beyond, here_within, gone_within, here_place, sizes_before, total-set, total_inserted, here_at, here_read, here_small, gone_at, wf_set, wf_inserted}
 use Rattle.edit_map.proofs.Splices.{behind_take, behind_drop, seam-take, seam-drop, front_take, front_drop, length-spliced}
 
 module _ {A : Type 0} (side : Side) (p n : ℕ) (xs : List A) where
@@ -181,8 +181,8 @@ module _ {A : Type 0} (side : Side) (n : ℕ) (xs : List A) (es : List Entry) (i
 
 module _ {A : Type 0} (p : ℕ) (es : List Entry) (i : ℕ) (s : List A) where
   module _ (w : At p es i) where
-    pub count_old : (old : Entry) → old ≡ get_or es i old → count_at p (edits es s) ≡ old.count
-    count_old old is = count_here s (here_read es i old w is)
+    pub count_old : well_formed 0 es ≡ true → (old : Entry) → old ≡ get_or es i old → (count_at p (edits es s) ≡ old.count) × (old.count ≤ 4096)
+    count_old wf old is = let h = here_read es i old w is in (count_here s h, here_small 0 h wf)
 
     pub places_old : (side : Side) (n : ℕ) (xs : List A) → length (put side p n xs (edits es s)) ≡ length es
     places_old side n xs = length_here side p n xs s (here_at p es i w)

@@ -28,7 +28,7 @@ splice-requires-clause-within g c =
 
 pub overflow_add-old : goal.overflow_add-old
 overflow_add-old g c =
-    let count = count_old c.args.addition.now.place (vec_items c.args.self.now.entries) c.args.rank c.args.store.now c.requires.at c.index-old.result.now c.index-old.ensures in
+    let count = count_old c.args.addition.now.place (vec_items c.args.self.now.entries) c.args.rank c.args.store.now c.requires.at c.args.self.now.ordered c.index-old.result.now c.index-old.ensures in
     omega (arith, c.requires.small)
 
 pub overflow_add-old-2 : goal.overflow_add-old-2
