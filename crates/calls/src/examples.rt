@@ -10,12 +10,6 @@ pub fn worked_scripts() -> usize
     ensures every_script_comes_out { EveryScriptComesOut }
     ensures refusals_change_nothing { RefusalsChangeNothing }
 {
-    count_scripts()
-}
-
-fn count_scripts() -> usize
-    ensures { result ≡ length scripts }
-{
     7
 }
 
@@ -23,12 +17,6 @@ fn count_scripts() -> usize
 pub fn refuted_lists() -> usize
     ensures count { result ≡ length wrong_lists }
     ensures every_wrong_list_is_refuted { EveryWrongListIsRefuted }
-{
-    count_wrong_lists()
-}
-
-fn count_wrong_lists() -> usize
-    ensures { result ≡ length wrong_lists }
 {
     20
 }

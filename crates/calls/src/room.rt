@@ -23,11 +23,5 @@ pub fn events_room() -> usize
     ensures two_passes_resolve { TwoPassesResolve }
     ensures nothing_else_is_claimed { NothingElseIsClaimed }
 {
-    most_events()
-}
-
-fn most_events() -> usize
-    ensures { result ≡ most_events }
-{
     2176
 }

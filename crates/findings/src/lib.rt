@@ -13,11 +13,5 @@ pub fn cuts_data(byte: u8) -> bool
     ensures answer { result ≡ cuts_data byte }
     ensures finds_links { FindsTheLinks }
 {
-    ends_line_or_begins_link(byte)
-}
-
-fn ends_line_or_begins_link(byte: u8) -> bool
-    ensures { result ≡ cuts_data byte }
-{
     matches!(byte, b'\n' | b'\r' | b'H' | b'h' | b'W' | b'w')
 }

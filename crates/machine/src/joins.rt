@@ -6,16 +6,11 @@ use crate::events::{Event, EventKind, Name};
 
 // Whether one Data span ends with a and the next one begins with b. Joining takes out both events of each seam: specs/Joins
 // says what is left of events that tile the text, and that nothing else could be.
+#[tactic(auto, using(crate::proofs::Joinings::joining_is_lawful, crate::proofs::Joinings::joins_by_example))]
 pub fn is_seam(a: Event, b: Event) -> bool
     ensures answer { result ≡ seam a b }
     ensures joining_is_lawful { JoiningIsLawful }
     ensures joins_by_example { JoinsByExample }
-{
-    meet(a, b)
-}
-
-fn meet(a: Event, b: Event) -> bool
-    ensures { result ≡ seam a b }
 {
     matches!(
         (a.kind, a.name, b.kind, b.name),

@@ -12,7 +12,7 @@ pub fn attempts_room() -> usize
     ensures reach { AttemptsReach result }
     ensures every_step_keeps { EveryStepKeeps }
 {
-    most_attempts()
+    3
 }
 
 // Open names.
@@ -21,7 +21,7 @@ pub fn names_room() -> usize
     ensures fit { NamesFit result }
     ensures reach { NamesReach result }
 {
-    most_names()
+    1
 }
 
 // Events for each byte of the note. At every moment they are spans that tile the text so far, perhaps with one enter open,
@@ -31,24 +31,6 @@ pub fn events_per_byte() -> usize
     ensures fit { EventsFit result }
     ensures reach { EventsReach result }
     ensures lawful_at_every_moment { LawfulAtEveryMoment }
-{
-    most_events_per_byte()
-}
-
-fn most_attempts() -> usize
-    ensures { result ≡ most_attempts }
-{
-    3
-}
-
-fn most_names() -> usize
-    ensures { result ≡ most_names }
-{
-    1
-}
-
-fn most_events_per_byte() -> usize
-    ensures { result ≡ most_events_per_byte }
 {
     2
 }

@@ -12,11 +12,5 @@ pub fn worked_notes() -> usize
     ensures splits_alike { SplitsAlike }
     ensures pauses_exactly { PausesExactly }
 {
-    count_worked()
-}
-
-fn count_worked() -> usize
-    ensures { result ≡ length worked_notes }
-{
     27
 }
