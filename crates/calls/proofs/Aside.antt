@@ -22,7 +22,7 @@ use Rattle.machine.specs.declared.states.StateName.{StateName}
 use Rattle.machine.specs.declared.states.StateName.TheVariants.{Before, Line, Data, Inside, ProtocolStart, ProtocolPrefixInside, ProtocolSlashesInside, ProtocolAfter, WwwStart, WwwPrefixInside, WwwPrefixAfter, WwwAfter, DomainInside, DomainAtPunctuation, DomainAfter, PathInside, PathAtPunctuation, PathAfter, Trail, TrailBracketAfter, TrailCharRefStart, TrailCharRefInside}
 use Rattle.machine.specs.Cursors.{crlf_at, before_cr, event}
 use Rattle.machine.specs.Invariant.{Edge}
-use Rattle.machine.specs.Moves.{Machine, events_back, resumed, with_attempts, settled_as, settled}
+use Rattle.machine.specs.Moves.{Machine, events_back, puts_back, resumed, with_attempts, settled_as, settled}
 use Rattle.machine.specs.States.{on, at_end, is, begins_protocol, begins_www, ends_data, may_precede_www, continuation, hyphen_or_continuation, may_end_path, trail_mark, after_bracket, is_white_space, is_other, unclosed, protocol_read, domain_fails, kind_here, call}
 use Rattle.machine.specs.Runs.{prepared, due, shown, Outcome, stopped, run}
 use Rattle.machine.proofs.Walk.{crlf}
@@ -100,7 +100,7 @@ back_aside s None es h = h
 back_aside s (Some p) es h = All-take (PutAside s) p.events es h
 
 resumed_aside : (ok : Bool) (a : Attempt) (us : List Attempt) (m : Machine) → KeepsAside m → KeepsAside (resumed ok a (with_attempts us m))
-resumed_aside ok a us m h = added (back_aside m.note (cond (a.check || not ok) a.progress None) m.events h.all)
+resumed_aside ok a us m h = added (back_aside m.note (cond (puts_back a.kind ok) a.progress None) m.events h.all)
 
 settled_aside : (a : State) (us : List Attempt) (m : Machine) → KeepsAside m → KeepsAside (settled_as a us m)
 settled_aside (Next n) us m h = h

@@ -28,9 +28,7 @@ pub fn is_unclosed(tokenizer: &Tokenizer) -> bool
 pub fn domain_fails(tokenizer: &Tokenizer) -> bool
     ensures { result ≡ domain_fails (machine tokenizer.now) }
 {
-    tokenizer.registers.marker_b == b'_'
-        || tokenizer.registers.marker == b'_'
-        || !tokenizer.registers.seen
+    tokenizer.registers.marker_b || tokenizer.registers.marker || !tokenizer.registers.seen
 }
 
 // The name of a protocol has been read: `http` or `https`, in any case.
@@ -57,7 +55,7 @@ pub fn leave_domain(tokenizer: &mut Tokenizer)
 {
     let fails = domain_fails(tokenizer);
     tokenizer.set_seen(false);
-    tokenizer.set_markers(0, 0);
+    tokenizer.set_markers(false, false);
     if fails {
         tokenizer.go(State::Nok);
     } else {
@@ -261,12 +259,12 @@ impl<S: PunctuationSet> Engine<S> {
             (StateName::DomainAtPunctuation, Some(b'_')) => {
                 let marker_b = self.tokenizer.registers.marker_b;
                 self.tokenizer.next(StateName::DomainInside);
-                self.tokenizer.set_markers(b'_', marker_b);
+                self.tokenizer.set_markers(true, marker_b);
             }
             (StateName::DomainAtPunctuation, _) => {
                 let marker = self.tokenizer.registers.marker;
                 self.tokenizer.next(StateName::DomainInside);
-                self.tokenizer.set_markers(0, marker);
+                self.tokenizer.set_markers(false, marker);
             }
             (StateName::DomainAfter, _) => leave_domain(&mut self.tokenizer),
             // ---- paths

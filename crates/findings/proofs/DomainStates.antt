@@ -49,27 +49,27 @@ joint-is b = regroup (eqb b 46) (eqb b 95) (eqb b 45) _
 
 -- ---- what the registers hold at i, in a domain from d on
 
-record Noted (s : List ℕ) (d i : ℕ) (seen : Bool) (x y : ℕ) : Type 0 where
+record Noted (s : List ℕ) (d i : ℕ) (seen x y : Bool) : Type 0 where
   -- whether some byte is no joint
   saw : some (λ b. not (joint b)) (part d i s) ≡ seen
   -- whether the last part has a `_`, and the part before it
-  told : marks (false, false) (part d i s) ≡ (eqb x 95, eqb y 95)
+  told : marks (false, false) (part d i s) ≡ (x, y)
 
-noted_first : (s : List ℕ) (d : ℕ) → Noted s d d false 0 0
+noted_first : (s : List ℕ) (d : ℕ) → Noted s d d false false false
 noted_first s d = record { saw = some-none (λ b. not (joint b)) s d; told = let e : d - d ≡ 0 = omega arith in ap (λ n. marks (false, false) (take n (drop d s))) e }
 
-module _ (s : List ℕ) (d i : ℕ) (le : d ≤ i) (lt : i < length s) (seen : Bool) (x y : ℕ) (f : Noted s d i seen x y) where
+module _ (s : List ℕ) (d i : ℕ) (le : d ≤ i) (lt : i < length s) (seen x y : Bool) (f : Noted s d i seen x y) where
   abbrev b : ℕ
   b = get_or s i 0
 
-  noted_more : (seen' : Bool) (x' y' : ℕ) → (seen || not (joint b)) ≡ seen' → marked (eqb x 95, eqb y 95) b ≡ (eqb x' 95, eqb y' 95) → Noted s d (i + 1) seen' x' y'
+  noted_more : (seen' x' y' : Bool) → (seen || not (joint b)) ≡ seen' → marked (x, y) b ≡ (x', y') → Noted s d (i + 1) seen' x' y'
   noted_more seen' x' y' p q =
       record {
         saw = some_more (λ b. not (joint b)) s d i le lt ∙ ap (λ t. t || not (joint b)) f.saw ∙ p;
         told = ap (marks (false, false)) (between_more s d i 0 le lt) ∙ marks-push (false, false) (part d i s) b ∙ ap (λ m. marked m b) f.told ∙ q;
       }
 
-  same-marks : dots b ≡ false → marked (eqb x 95, eqb y 95) b ≡ (eqb x 95, eqb y 95)
+  same-marks : dots b ≡ false → marked (x, y) b ≡ (x, y)
   same-marks h =
       let p = or_parts (eqb b 46) (eqb b 95 || false) h in
       let q = or_parts (eqb b 95) false p.1 in
@@ -92,13 +92,13 @@ module _ (s : List ℕ) (d i : ℕ) (le : d ≤ i) (lt : i < length s) (seen : B
   noted_other : dots b ≡ false → hyphen_or_continuation b ≡ false → Noted s d (i + 1) true x y
   noted_other h k = noted_more true x y (ap (λ t. seen || not t) (joint-is b ∙ or_from _ _ h k) ∙ or_true seen) (same-marks h)
 
-  noted_underscore : eqb b 95 ≡ true → Noted s d (i + 1) seen 95 y
-  noted_underscore h = noted_more seen 95 y (same_seen (ap joint (eqb-true b 95 h))) (ap (marked (eqb x 95, eqb y 95)) (eqb-true b 95 h))
+  noted_underscore : eqb b 95 ≡ true → Noted s d (i + 1) seen true y
+  noted_underscore h = noted_more seen true y (same_seen (ap joint (eqb-true b 95 h))) (ap (marked (x, y)) (eqb-true b 95 h))
 
-  noted_dot : dots b ≡ true → eqb b 95 ≡ false → Noted s d (i + 1) seen 0 x
+  noted_dot : dots b ≡ true → eqb b 95 ≡ false → Noted s d (i + 1) seen false x
   noted_dot h k =
       let dot : eqb b 46 ≡ true = ⊎_elim (λ t. t) (λ t. absurd (both_ways (dots b) (or_from (eqb b 46) _ t (or_from (eqb b 95) false k refl)) h)) (cases_Bool (eqb b 46)) in
-      noted_more seen 0 x (same_seen (joint-is b ∙ or_left _ _ h)) (cond-true (eqb b 46) _ _ dot)
+      noted_more seen false x (same_seen (joint-is b ∙ or_left _ _ h)) (cond-true (eqb b 46) _ _ dot)
 
 -- ---- where a domain stops, by its bytes
 
@@ -125,17 +125,17 @@ module _ (mem : ℕ → Bool) (s : List ℕ) (i : ℕ) where
 -- ---- the states, from d to where the domain ends
 
 module _ (mem : ℕ → Bool) (s : List ℕ) (us : List Attempt) (es : List Event) (ns : List Name) (Goal : Machine → Type 0) (d end : ℕ) where
-  abbrev At : StateName → ℕ → Option ℕ → Bool → ℕ → ℕ → Type 0
+  abbrev At : StateName → ℕ → Option ℕ → Bool → Bool → Bool → Type 0
   At n i v seen x y = Reach mem (after mem s n (cursor_at s i v) (noting seen x y) us es ns) Goal
 
   abbrev Ends : Type 0
-  Ends = (v : Option ℕ) (seen : Bool) (x y : ℕ) → Stands s end v → Noted s d end seen x y → At DomainAfter end v seen x y
+  Ends = (v : Option ℕ) (seen x y : Bool) → Stands s end v → Noted s d end seen x y → At DomainAfter end v seen x y
 
   -- from the next place on
   abbrev On : ℕ → Type 0
-  On i = (v : Option ℕ) → Stands s (i + 1) v → (seen : Bool) (x y : ℕ) → Noted s d (i + 1) seen x y → first (domain_stops mem s) s (i + 1) ≡ end → At DomainInside (i + 1) v seen x y
+  On i = (v : Option ℕ) → Stands s (i + 1) v → (seen x y : Bool) → Noted s d (i + 1) seen x y → first (domain_stops mem s) s (i + 1) ≡ end → At DomainInside (i + 1) v seen x y
 
-  module _ (i : ℕ) (v : Option ℕ) (seen : Bool) (x y : ℕ) (le : d ≤ i) (st : Stands s i v) (f : Noted s d i seen x y) (is-end : first (domain_stops mem s) s i ≡ end) (done : Ends) (on-next : i < length s → On i) where
+  module _ (i : ℕ) (v : Option ℕ) (seen x y : Bool) (le : d ≤ i) (st : Stands s i v) (f : Noted s d i seen x y) (is-end : first (domain_stops mem s) s i ≡ end) (done : Ends) (on-next : i < length s → On i) where
     finish : i ≡ end → At DomainAfter i v seen x y
     finish q = subst (λ k. Stands s k v → Noted s d k seen x y → At DomainAfter k v seen x y) (sym q) (done v seen x y) st f
 
@@ -148,8 +148,8 @@ module _ (mem : ℕ → Bool) (s : List ℕ) (us : List Attempt) (es : List Even
         let lt = stands s i dots refl h in
         let f' = plain_test s i dots refl refl refl refl h in
         by_byte s (is 95) refl refl refl i _ _
-        (λ q. go_on i v f' (on-next lt (byte_shown s i) (past_plain s i f') seen 95 y (noted_underscore s d i le lt seen x y f q) (end_after lt h')))
-        (λ q. go_on i v f' (on-next lt (byte_shown s i) (past_plain s i f') seen 0 x (noted_dot s d i le lt seen x y f h q) (end_after lt h')))
+        (λ q. go_on i v f' (on-next lt (byte_shown s i) (past_plain s i f') seen true y (noted_underscore s d i le lt seen x y f q) (end_after lt h')))
+        (λ q. go_on i v f' (on-next lt (byte_shown s i) (past_plain s i f') seen false x (noted_dot s d i le lt seen x y f h q) (end_after lt h')))
 
     -- one call of the domain state
     domain_turn : At DomainInside i v seen x y
@@ -179,7 +179,7 @@ module _ (mem : ℕ → Bool) (s : List ℕ) (us : List Attempt) (es : List Even
         (λ le'. sym (first-end (domain_stops mem s) s i le') ∙ is-end)
         (cases_lt i (length s)))))))
 
-  domain-run : (k i : ℕ) (v : Option ℕ) (seen : Bool) (x y : ℕ) → length s ≤ i + k → d ≤ i → Stands s i v → Noted s d i seen x y → first (domain_stops mem s) s i ≡ end → Ends → At DomainInside i v seen x y
+  domain-run : (k i : ℕ) (v : Option ℕ) (seen x y : Bool) → length s ≤ i + k → d ≤ i → Stands s i v → Noted s d i seen x y → first (domain_stops mem s) s i ≡ end → Ends → At DomainInside i v seen x y
   domain-run zero i v seen x y fuel le st f q done = domain_turn i v seen x y le st f q done (λ lt. absurd (omega arith))
   domain-run (suc k) i v seen x y fuel le st f q done = domain_turn i v seen x y le st f q done (λ lt w st' seen' x' y' f' q'. domain-run k (i + 1) w seen' x' y' (omega arith) (omega arith) st' f' q' done)
 
@@ -195,14 +195,14 @@ module _ (mem : ℕ → Bool) (s : List ℕ) (us : List Attempt) (es : List Even
   valid-is false false false = refl
 
   -- the test of the registers is the test of the domain
-  domain_after : (end : ℕ) (v : Option ℕ) (seen : Bool) (x y : ℕ) → Noted s d end seen x y →
+  domain_after : (end : ℕ) (v : Option ℕ) (seen x y : Bool) → Noted s d end seen x y →
       (valid (part d end s) ≡ true → Reach mem (after mem s PathInside (cursor_at s end v) cleared us es ns) Goal) →
       (valid (part d end s) ≡ false → Reach mem (settled (made_of s Nok (cursor_at s end v) cleared us es ns)) Goal) →
       Reach mem (after mem s DomainAfter (cursor_at s end v) (noting seen x y) us es ns) Goal
   domain_after end v seen x y f good bad =
-      let same : valid (part d end s) ≡ not (eqb y 95 || eqb x 95 || not seen) =
-      ap (λ t. t && without_underscore (last_two (parts (part d end s)))) f.saw ∙ ap (λ t. seen && t) (underscore_marks (part d end s) ∙ ap none f.told) ∙ valid-is seen (eqb x 95) (eqb y 95) in
-      by_bool (eqb y 95 || eqb x 95 || not seen) _ _
+      let same : valid (part d end s) ≡ not (y || x || not seen) =
+      ap (λ t. t && without_underscore (last_two (parts (part d end s)))) f.saw ∙ ap (λ t. seen && t) (underscore_marks (part d end s) ∙ ap none f.told) ∙ valid-is seen x y in
+      by_bool (y || x || not seen) _ _
       (λ h. bad (same ∙ ap not h))
       (λ h. go_retry (good (same ∙ ap not h)))
 
@@ -212,5 +212,5 @@ module _ (mem : ℕ → Bool) (s : List ℕ) (us : List Attempt) (es : List Even
       ((w : Option ℕ) → valid (part d (domain_end mem s d) s) ≡ false → Reach mem (settled (made_of s Nok (cursor_at s (domain_end mem s d) w) cleared us es ns)) Goal) →
       Reach mem (after mem s DomainInside (cursor_at s d v) cleared us es ns) Goal
   domain v st good bad =
-      domain-run mem s us es ns Goal d (domain_end mem s d) (length s) d v false 0 0 (omega arith) (omega arith) st (noted_first s d) refl
+      domain-run mem s us es ns Goal d (domain_end mem s d) (length s) d v false false false (omega arith) (omega arith) st (noted_first s d) refl
       (λ w seen x y st' f. domain_after (domain_end mem s d) w seen x y f (good w st') (bad w))

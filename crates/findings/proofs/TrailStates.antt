@@ -10,6 +10,7 @@ use Rattle.punctuation.specs.declared.kinds.CharacterKind.TheVariants.{Whitespac
 use Rattle.rules.specs.Web.{is_white, white_at, trail}
 use Rattle.rules.proofs.Trails.{goes, trail_goes, reference_goes, reference_letter, reference_other, reference_end}
 use Rattle.machine.specs.declared.attempts.Attempt.{Attempt}
+use Rattle.machine.specs.declared.attempts.AttemptKind.TheVariants as attempt_kind
 use Rattle.machine.specs.declared.attempts.Progress.{Progress}
 use Rattle.machine.specs.declared.cursors.Registers.{Registers}
 use Rattle.machine.specs.declared.events.Event.{Event}
@@ -55,7 +56,7 @@ module _ (mem : ℕ → Bool) (s : List ℕ) (r : Registers) (us : List Attempt)
   c = not (ltb r.size_b r.size)
 
   abbrev checking : List Attempt
-  checking = record { ok = Next ok; nok = Next nok; check = true; progress = Some p } ∷ us
+  checking = record { ok = Next ok; nok = Next nok; kind = attempt_kind.Check; progress = Some p } ∷ us
 
   -- what the check goes on with, when it has its answer
   abbrev Lands : Bool → Type 0
@@ -148,7 +149,7 @@ module _ (mem : ℕ → Bool) (s : List ℕ) (r : Registers) (us : List Attempt)
 -- While a parenthesis is open in the registers, `)` is no item of the trail
 pub check_trail : (mem : ℕ → Bool) (s : List ℕ) (r : Registers) (us : List Attempt) (es : List Event) (ns : List Name) (ok nok : StateName) (Goal : Machine → Type 0) (t : ℕ) (v : Option ℕ) →
     Reach mem (after mem s (cond (trail mem (not (ltb r.size_b r.size)) s t) ok nok) (cursor_at s t v) r us es ns) Goal →
-    Reach mem (made_of s (Retry Trail) (cursor_at s t v) r (record { ok = Next ok; nok = Next nok; check = true; progress = Some (record { cursor = cursor_at s t v; events = length es; names = length ns }) } ∷ us) es ns) Goal
+    Reach mem (made_of s (Retry Trail) (cursor_at s t v) r (record { ok = Next ok; nok = Next nok; kind = attempt_kind.Check; progress = Some (record { cursor = cursor_at s t v; events = length es; names = length ns }) } ∷ us) es ns) Goal
 check_trail mem s r us es ns ok nok Goal t v l =
     let p : Progress = record { cursor = cursor_at s t v; events = length es; names = length ns } in
     let c = not (ltb r.size_b r.size) in

@@ -212,9 +212,9 @@ module _ {s : List ℕ} where
   stage_within le (p_slashes {k} lo h) = small (counting k 0) (omega arith) refl refl
   stage_within le (w_prefix {k} h) = small (counting k 0) h refl refl
   stage_within le w_after = small cleared (omega arith) refl refl
-  stage_within le (domain {x} {y} {b} lo seen) = small (noting b x y) (omega arith) refl refl
-  stage_within le (domain_at {x} {y} {b} f lo seen) = small (noting b x y) (omega arith) refl refl
-  stage_within le (domain_after {x} {y} {b} lo seen) = small (noting b x y) (omega arith) refl refl
+  stage_within le (domain {b} {x} {y} lo seen) = small (noting b x y) (omega arith) refl refl
+  stage_within le (domain_at {b} {x} {y} f lo seen) = small (noting b x y) (omega arith) refl refl
+  stage_within le (domain_after {b} {x} {y} lo seen) = small (noting b x y) (omega arith) refl refl
   stage_within le (path {j} {x} {y} lo lx ly) = counted j x y le lx ly
   stage_within le (path_at {j} {x} {y} f lo lx ly) = counted j x y le lx ly
   stage_within le (path_after {j} {x} {y} lo lx ly) = counted j x y le lx ly

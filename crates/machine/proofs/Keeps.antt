@@ -230,7 +230,7 @@ module _ (s : List ℕ) where
       abbrev us : List Attempt
       us = part_attempt (leaves l) ∷ link_attempt d es ∷ []
 
-      keeps_domain : {j : ℕ} {c : Cursor} (b : Bool) (x y : ℕ) → Shows s j c → i ≤ j → (b ≡ true → i < j) → Sound s (after mem s DomainInside c (noting b x y) us (es ++ a ∷ []) (name_of l ∷ []))
+      keeps_domain : {j : ℕ} {c : Cursor} (b x y : Bool) → Shows s j c → i ≤ j → (b ≡ true → i < j) → Sound s (after mem s DomainInside c (noting b x y) us (es ++ a ∷ []) (name_of l ∷ []))
       keeps_domain b x y (shows {i = j} {v} le ed) lo seen =
           by_test (among (codes "._")) refl refl refl j _ _
           (λ h. retry (linked t ea (shows le ed) (trail in_trail refl (shows {v = v} le ed) (domain_after lo seen) (domain_at (plain_test s j (among (codes "._")) refl refl refl refl h) lo seen))))
@@ -242,7 +242,7 @@ module _ (s : List ℕ) where
           (λ h. next (linked t ea (over_plain (shows {v = v} le ed) (plain_other mem s j (sym (ap is_other (kind-index mem s j)) ∙ h))) (domain (omega arith) (λ _. omega arith))))
           (λ _. retry (linked t ea (shows le ed) (domain_after lo seen)))))
 
-      keeps_domain_at : {j : ℕ} {c : Cursor} (b : Bool) (x y : ℕ) → Shows s j c → Plain s j → i ≤ j → (b ≡ true → i < j) → Sound s (after mem s DomainAtPunctuation c (noting b x y) us (es ++ a ∷ []) (name_of l ∷ []))
+      keeps_domain_at : {j : ℕ} {c : Cursor} (b x y : Bool) → Shows s j c → Plain s j → i ≤ j → (b ≡ true → i < j) → Sound s (after mem s DomainAtPunctuation c (noting b x y) us (es ++ a ∷ []) (name_of l ∷ []))
       keeps_domain_at b x y (shows {i = j} {v} le ed) f lo seen =
           by_bool (on (is 95) (byte_shown s j)) _ _
           (λ _. next (linked t ea (over_plain (shows {v = v} le ed) f) (domain (omega arith) (λ q. omega (arith, seen q)))))
@@ -254,11 +254,11 @@ module _ (s : List ℕ) where
       was_seen true y false h = absurd (true≢false h)
       was_seen false true false h = absurd (true≢false h)
 
-      keeps_domain_after : {j : ℕ} {c : Cursor} (b : Bool) (x y : ℕ) → Shows s j c → (b ≡ true → i < j) → Sound s (after mem s DomainAfter c (noting b x y) us (es ++ a ∷ []) (name_of l ∷ []))
+      keeps_domain_after : {j : ℕ} {c : Cursor} (b x y : Bool) → Shows s j c → (b ≡ true → i < j) → Sound s (after mem s DomainAfter c (noting b x y) us (es ++ a ∷ []) (name_of l ∷ []))
       keeps_domain_after b x y (shows {i = j} {v} le ed) seen =
-          by_bool (eqb y 95 || eqb x 95 || not b) _ _
+          by_bool (y || x || not b) _ _
           (λ _. next (fails t a))
-          (λ h. retry (linked t ea (shows le ed) (path (seen (was_seen (eqb y 95) (eqb x 95) b h)) (omega arith) (omega arith))))
+          (λ h. retry (linked t ea (shows le ed) (path (seen (was_seen y x b h)) (omega arith) (omega arith))))
 
       keeps_path : {j : ℕ} {c : Cursor} (x y : ℕ) → Shows s j c → i < j → x ≤ j → y ≤ j → Sound s (after mem s PathInside c (counting x y) us (es ++ a ∷ []) (name_of l ∷ []))
       keeps_path x y (shows {i = j} {v} le ed) lo lx ly =
@@ -352,9 +352,9 @@ module _ (s : List ℕ) where
     stage_keeps t ea p (p_slashes {k} lo _) = keeps_p_slashes t ea k p lo
     stage_keeps t ea p (w_prefix {k} _) = keeps_w_prefix t ea k p
     stage_keeps t ea p w_after = keeps_w_after t ea p
-    stage_keeps t ea p (domain {l} {x} {y} {b} lo seen) = keeps_domain l t ea b x y p lo seen
-    stage_keeps t ea p (domain_at {l} {x} {y} {b} f lo seen) = keeps_domain_at l t ea b x y p f lo seen
-    stage_keeps t ea p (domain_after {l} {x} {y} {b} lo seen) = keeps_domain_after l t ea b x y p seen
+    stage_keeps t ea p (domain {l} {b} {x} {y} lo seen) = keeps_domain l t ea b x y p lo seen
+    stage_keeps t ea p (domain_at {l} {b} {x} {y} f lo seen) = keeps_domain_at l t ea b x y p f lo seen
+    stage_keeps t ea p (domain_after {l} {b} {x} {y} lo seen) = keeps_domain_after l t ea b x y p seen
     stage_keeps t ea p (path {l} {x} {y} lo lx ly) = keeps_path l t ea x y p lo lx ly
     stage_keeps t ea p (path_at {l} {x} {y} f lo lx ly) = keeps_path_at l t ea x y p f lo lx ly
     stage_keeps t ea p (path_after {l} {x} {y} lo lx ly) = keeps_path_after l t ea x y p lo

@@ -1,6 +1,6 @@
 -- How a run is split does not matter.
 -- Assumes nothing.
-use Rattle.std.proofs.Common.{◌≡◌, ℕ, zero, suc, ◌+◌, ◌-◌, ◌≤◌, Bool, true, false, cond, not, ◌&&◌, ◌||◌, ltb, List, [], ◌∷◌, length, Some, None, Option, sym, refl, ap, ◌∙◌, ⊎_elim, zero-add, arith}
+use Rattle.std.proofs.Common.{◌≡◌, ℕ, zero, suc, ◌+◌, ◌-◌, ◌≤◌, Bool, true, false, cond, ◌&&◌, ltb, List, [], ◌∷◌, length, Some, None, Option, sym, refl, ap, ◌∙◌, ⊎_elim, zero-add, arith}
 use Rattle.std.proofs.lemmas.Bool.{cases_lt, cond-true, cond-false, cond_both, and_parts, and_right, and_from, true≢false, lt-ltb, ltb-true, leb-true}
 use Rattle.machine.specs.declared.attempts.Attempt.{Attempt}
 use Rattle.machine.specs.declared.cursors.Cursor.{Cursor}
@@ -13,7 +13,7 @@ use Rattle.machine.specs.declared.states.State.{State}
 use Rattle.machine.specs.declared.states.State.TheVariants.{Next, Retry, Ok, Nok}
 use Rattle.machine.specs.declared.states.StateName.{StateName}
 use Rattle.machine.specs.Cursors.{crlf_at}
-use Rattle.machine.specs.Moves.{Machine, made_of, settled_as, settled, cursor_back, events_back, names_back}
+use Rattle.machine.specs.Moves.{Machine, made_of, settled_as, settled, cursor_back, events_back, names_back, puts_back}
 use Rattle.machine.specs.States.{call}
 use Rattle.machine.specs.Runs.{limit, passed, prepared, may_show, due, shown, Outcome, stopped, plus, choose, none_due, run}
 use Rattle.machine.specs.Laws.{no_later, Part, in_parts, none_later, SplitsAlike, PausesExactly}
@@ -37,11 +37,11 @@ still (Next n) us s c r es ns = tt
 still (Retry n) us s c r es ns = tt
 still Ok [] s c r es ns = tt
 still Ok (a ∷ us) s c r es ns =
-    let o = cond (a.check || not true) a.progress None in
+    let o = cond (puts_back a.kind true) a.progress None in
     still a.ok us s (cursor_back o c) r (events_back o es) (names_back o ns)
 still Nok [] s c r es ns = tt
 still Nok (a ∷ us) s c r es ns =
-    let o = cond (a.check || not false) a.progress None in
+    let o = cond (puts_back a.kind false) a.progress None in
     still a.nok us s (cursor_back o c) r (events_back o es) (names_back o ns)
 
 pub still_settled : (a : State) (us : List Attempt) (s : List ℕ) (c : Cursor) (r : Registers) (es : List Event) (ns : List Name) → Still a us → settled (made_of s a c r us es ns) ≡ made_of s a c r us es ns

@@ -5,6 +5,7 @@ use Rattle.text.specs.declared.places.Point.{Point}
 use Rattle.text.specs.declared.spans.SpanKind.TheVariants.{Www, Protocol}
 use Rattle.text.specs.Places.{after_tab, place_at}
 use Rattle.machine.specs.declared.attempts.Attempt.{Attempt}
+use Rattle.machine.specs.declared.attempts.AttemptKind.TheVariants as attempt_kind
 use Rattle.machine.specs.declared.cursors.Cursor.{Cursor}
 use Rattle.machine.specs.declared.cursors.Registers.{Registers}
 use Rattle.machine.specs.declared.cursors.Until.{Until}
@@ -93,15 +94,15 @@ leaves protocol = ProtocolAfter
 
 -- the attempt of a whole link, begun by Before at c
 abbrev pub link_attempt : Cursor → List Event → Attempt
-link_attempt c es = record { ok = Next Before; nok = Next Data; check = false; progress = Some (record { cursor = c; events = length es; names = 0 }) }
+link_attempt c es = record { ok = Next Before; nok = Next Data; kind = attempt_kind.Attempt; progress = Some (record { cursor = c; events = length es; names = 0 }) }
 
 -- an attempt that passes Nok on
 abbrev pub part_attempt : StateName → Attempt
-part_attempt n = record { ok = Next n; nok = Nok; check = false; progress = None }
+part_attempt n = record { ok = Next n; nok = Nok; kind = attempt_kind.Attempt; progress = None }
 
 -- a check within a link, begun at c
 abbrev pub check_attempt : State → State → Cursor → List Event → Attempt
-check_attempt y n c es = record { ok = y; nok = n; check = true; progress = Some (record { cursor = c; events = length es; names = 1 }) }
+check_attempt y n c es = record { ok = y; nok = n; kind = attempt_kind.Check; progress = Some (record { cursor = c; events = length es; names = 1 }) }
 
 -- a link is tried at i: the events before it are closed
 pub record Tried (s : List ℕ) (i : ℕ) (c : Cursor) (es : List Event) : Type 0 where
@@ -113,12 +114,12 @@ pub record Tried (s : List ℕ) (i : ℕ) (c : Cursor) (es : List Event) : Type 
 
 -- of a protocol's name, of a count, of a domain
 abbrev pub starting : ℕ → Registers
-starting i = record { size = 0; size_b = 0; seen = false; marker = 0; marker_b = 0; start = i }
+starting i = record { size = 0; size_b = 0; seen = false; marker = false; marker_b = false; start = i }
 
 abbrev pub counting : ℕ → ℕ → Registers
-counting a b = record { size = a; size_b = b; seen = false; marker = 0; marker_b = 0; start = 0 }
+counting a b = record { size = a; size_b = b; seen = false; marker = false; marker_b = false; start = 0 }
 
-abbrev pub noting : Bool → ℕ → ℕ → Registers
+abbrev pub noting : Bool → Bool → Bool → Registers
 noting b x y = record { size = 0; size_b = 0; seen = b; marker = x; marker_b = y; start = 0 }
 
 -- ---- states
@@ -135,9 +136,9 @@ pub data Stage (s : List ℕ) (i : ℕ) (d : Cursor) (evs : List Event) : Web �
   p_slashes : {j k : ℕ} → i < j → k ≤ 1 → Stage s i d evs protocol j ProtocolSlashesInside (counting k 0) (part_attempt DomainInside ∷ part_attempt ProtocolAfter ∷ [])
   w_prefix : {j k : ℕ} → k ≤ 3 → Stage s i d evs www j WwwPrefixInside (counting k 0) (check_attempt (Next DomainInside) Nok d evs ∷ part_attempt WwwAfter ∷ [])
   w_after : {j : ℕ} → Stage s i d evs www j WwwPrefixAfter cleared (check_attempt (Next DomainInside) Nok d evs ∷ part_attempt WwwAfter ∷ [])
-  domain : {l : Web} {j x y : ℕ} {b : Bool} → i ≤ j → (b ≡ true → i < j) → Stage s i d evs l j DomainInside (noting b x y) (part_attempt (leaves l) ∷ [])
-  domain_at : {l : Web} {j x y : ℕ} {b : Bool} → Plain s j → i ≤ j → (b ≡ true → i < j) → Stage s i d evs l j DomainAtPunctuation (noting b x y) (part_attempt (leaves l) ∷ [])
-  domain_after : {l : Web} {j x y : ℕ} {b : Bool} → i ≤ j → (b ≡ true → i < j) → Stage s i d evs l j DomainAfter (noting b x y) (part_attempt (leaves l) ∷ [])
+  domain : {l : Web} {j : ℕ} {b x y : Bool} → i ≤ j → (b ≡ true → i < j) → Stage s i d evs l j DomainInside (noting b x y) (part_attempt (leaves l) ∷ [])
+  domain_at : {l : Web} {j : ℕ} {b x y : Bool} → Plain s j → i ≤ j → (b ≡ true → i < j) → Stage s i d evs l j DomainAtPunctuation (noting b x y) (part_attempt (leaves l) ∷ [])
+  domain_after : {l : Web} {j : ℕ} {b x y : Bool} → i ≤ j → (b ≡ true → i < j) → Stage s i d evs l j DomainAfter (noting b x y) (part_attempt (leaves l) ∷ [])
   path : {l : Web} {j x y : ℕ} → i < j → x ≤ j → y ≤ j → Stage s i d evs l j PathInside (counting x y) (part_attempt (leaves l) ∷ [])
   path_at : {l : Web} {j x y : ℕ} → Plain s j → i < j → x ≤ j → y ≤ j → Stage s i d evs l j PathAtPunctuation (counting x y) (part_attempt (leaves l) ∷ [])
   path_after : {l : Web} {j x y : ℕ} → i < j → x ≤ j → y ≤ j → Stage s i d evs l j PathAfter (counting x y) (part_attempt (leaves l) ∷ [])

@@ -1,7 +1,9 @@
 -- The machine as a value, the moves that its states are made of, and the settling of attempts.
 -- Assumes nothing.
-use Rattle.std.specs.Prelude.{ℕ, ◌-◌, Bool, true, false, cond, not, ◌||◌, List, [], ◌∷◌, ◌++◌, length, take, Some, None, Option}
+use Rattle.std.specs.Prelude.{ℕ, ◌-◌, Bool, true, false, cond, not, List, [], ◌∷◌, ◌++◌, length, take, Some, None, Option}
 use Rattle.machine.specs.declared.attempts.Attempt.{Attempt}
+use Rattle.machine.specs.declared.attempts.AttemptKind.{AttemptKind}
+use Rattle.machine.specs.declared.attempts.AttemptKind.TheVariants as attempt_kind
 use Rattle.machine.specs.declared.attempts.Progress.{Progress}
 use Rattle.machine.specs.declared.cursors.Cursor.{Cursor}
 use Rattle.machine.specs.declared.cursors.Registers.{Registers}
@@ -68,7 +70,7 @@ saw b m =
     let r = m.registers in
     with_registers (record { size = r.size; size_b = r.size_b; seen = b; marker = r.marker; marker_b = r.marker_b; start = r.start }) m
 
-abbrev pub marked : ℕ → ℕ → Machine → Machine
+abbrev pub marked : Bool → Bool → Machine → Machine
 marked a b m =
     let r = m.registers in
     with_registers (record { size = r.size; size_b = r.size_b; seen = r.seen; marker = a; marker_b = b; start = r.start }) m
@@ -95,7 +97,7 @@ abbrev pub begun : Attempt → Machine → Machine
 begun a m = with_attempts (a ∷ m.attempts) m
 
 abbrev pub checked : State → State → Machine → Machine
-checked ok nok m = begun (record { ok = ok; nok = nok; check = true; progress = Some (captured m) }) m
+checked ok nok m = begun (record { ok = ok; nok = nok; kind = attempt_kind.Check; progress = Some (captured m) }) m
 
 -- an attempt whose own answer for Nok is Nok captures nothing: what lies below puts back more
 abbrev pub kept_for : State → Progress → Option Progress
@@ -105,7 +107,7 @@ kept_for Ok p = Some p
 kept_for Nok p = None
 
 abbrev pub attempted : State → State → Machine → Machine
-attempted ok nok m = begun (record { ok = ok; nok = nok; check = false; progress = kept_for nok (captured m) }) m
+attempted ok nok m = begun (record { ok = ok; nok = nok; kind = attempt_kind.Attempt; progress = kept_for nok (captured m) }) m
 
 -- ---- settling
 
@@ -126,9 +128,14 @@ abbrev pub restored : Option Progress → Machine → Machine
 restored o m =
     made_of m.note m.state (cursor_back o m.cursor) m.registers m.attempts (events_back o m.events) (names_back o m.names)
 
+-- whether what was captured is put back: by a check always, by an attempt on Nok
+abbrev pub puts_back : AttemptKind → Bool → Bool
+puts_back attempt_kind.Check ok = true
+puts_back attempt_kind.Attempt ok = not ok
+
 -- a has its answer, Ok or else Nok: it puts back, unless it is an attempt with Ok, and its own answer takes that place
 abbrev pub resumed : Bool → Attempt → Machine → Machine
-resumed ok a m = with_state (cond ok a.ok a.nok) (restored (cond (a.check || not ok) a.progress None) m)
+resumed ok a m = with_state (cond ok a.ok a.nok) (restored (cond (puts_back a.kind ok) a.progress None) m)
 
 -- Ok and Nok are told to the latest attempt, which is taken off; and so on with its own answer. With none left, all is over
 abbrev pub settled_as : State → List Attempt → Machine → Machine

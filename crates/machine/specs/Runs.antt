@@ -19,7 +19,7 @@ abbrev pub at_start : Cursor
 at_start = record { point = record { line = 1; column = 1; index = 0; vs = 0 }; previous = None; current = None }
 
 abbrev pub cleared : Registers
-cleared = record { size = 0; size_b = 0; seen = false; marker = 0; marker_b = 0; start = 0 }
+cleared = record { size = 0; size_b = 0; seen = false; marker = false; marker_b = false; start = 0 }
 
 abbrev pub beginning : List ℕ → Machine
 beginning s = made_of s (Next Before) at_start cleared [] [] []

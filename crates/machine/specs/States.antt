@@ -84,7 +84,7 @@ protocol_read m =
 
 -- a `_` in one of the last two parts of the domain, or nothing but joints
 abbrev pub domain_fails : Machine → Bool
-domain_fails m = m.registers.marker_b == 95 || m.registers.marker == 95 || not m.registers.seen
+domain_fails m = m.registers.marker_b || m.registers.marker || not m.registers.seen
 
 -- the kind of the character at the point; member is the meaning of the punctuation set
 abbrev pub kind_here : (ℕ → Bool) → Machine → CharacterKind
@@ -167,13 +167,13 @@ call_domain_inside member m =
 
 abbrev pub call_domain_at_punctuation : Machine → Machine
 call_domain_at_punctuation m =
-    cond (on (is 95) m.cursor.current) (next DomainInside (marked 95 m.registers.marker_b m))
-    (next DomainInside (marked 0 m.registers.marker m))
+    cond (on (is 95) m.cursor.current) (next DomainInside (marked true m.registers.marker_b m))
+    (next DomainInside (marked false m.registers.marker m))
 
 abbrev pub call_domain_after : Machine → Machine
 call_domain_after m =
-    cond (domain_fails m) (with_state Nok (marked 0 0 (saw false m)))
-    (with_state (Retry PathInside) (marked 0 0 (saw false m)))
+    cond (domain_fails m) (with_state Nok (marked false false (saw false m)))
+    (with_state (Retry PathInside) (marked false false (saw false m)))
 
 -- ---- paths
 

@@ -10,11 +10,18 @@ pub struct Progress {
     pub names: usize,
 }
 
-// The answers that take the place of Ok and of Nok. A check always puts back; an attempt does on Nok.
+// A check always puts back; an attempt does on Nok.
+#[derive(Clone, Copy, PartialEq, Eq, Debug)]
+pub enum AttemptKind {
+    Attempt,
+    Check,
+}
+
+// The answers that take the place of Ok and of Nok, and what is put back.
 #[derive(Clone, Copy)]
 pub struct Attempt {
     pub ok: State,
     pub nok: State,
-    pub check: bool,
+    pub kind: AttemptKind,
     pub progress: Option<Progress>,
 }

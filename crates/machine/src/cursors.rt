@@ -31,7 +31,7 @@ impl Cursor {
 }
 
 // What the states note down. Registers are never put back.
-#[derive(Clone, Copy)]
+#[derive(Clone, Copy, Default)]
 pub struct Registers {
     // `w` or `/` of a prefix, or `(` of a path
     pub size: usize,
@@ -39,10 +39,10 @@ pub struct Registers {
     pub size_b: usize,
     // whether the domain has a byte that is no joint
     pub seen: bool,
-    // `_` if the last part of the domain has one, else 0
-    pub marker: u8,
+    // whether the last part of the domain has a `_`
+    pub marker: bool,
     // the same of the part before it
-    pub marker_b: u8,
+    pub marker_b: bool,
     // where the name of a protocol begins
     pub start: usize,
 }
@@ -51,14 +51,7 @@ impl Registers {
     pub fn new() -> Registers
         ensures { result ≡ cleared }
     {
-        Registers {
-            size: 0,
-            size_b: 0,
-            seen: false,
-            marker: 0,
-            marker_b: 0,
-            start: 0,
-        }
+        Registers::default()
     }
 }
 

@@ -11,7 +11,7 @@ pub mod runs;
 pub mod states;
 pub mod worked;
 
-pub use attempts::{Attempt, Progress};
+pub use attempts::{Attempt, AttemptKind, Progress};
 pub use cursors::{Cursor, Registers, Until};
 pub use events::{Event, EventKind, Name};
 pub use runs::Ran;

@@ -9,7 +9,7 @@ ghost use Rattle.tokenizer.specs.Stack.{stack};
 ghost use Rattle.tokenizer.specs.View.{machine};
 
 use crate::tokenizer::Tokenizer;
-use machine::{Attempt, Cursor, Event, EventKind, Name, Progress, State, StateName};
+use machine::{Attempt, AttemptKind, Cursor, Event, EventKind, Name, Progress, State, StateName};
 use text::{Point, SpanKind};
 
 // A tab fills up to a column of the form TAB_SIZE * k + 1.
@@ -42,7 +42,7 @@ impl Tokenizer {
         self.registers.seen = seen;
     }
 
-    pub fn set_markers(&mut self, marker: u8, marker_b: u8)
+    pub fn set_markers(&mut self, marker: bool, marker_b: bool)
         ensures { machine self.new ≡ marked marker marker_b (machine self.old) }
     {
         self.registers.marker = marker;
@@ -184,7 +184,7 @@ impl Tokenizer {
         self.attempts.put(Attempt {
             ok,
             nok,
-            check: true,
+            kind: AttemptKind::Check,
             progress,
         });
     }
@@ -207,7 +207,7 @@ impl Tokenizer {
         self.attempts.put(Attempt {
             ok,
             nok,
-            check: false,
+            kind: AttemptKind::Attempt,
             progress,
         });
     }

@@ -4,7 +4,7 @@ ghost use Rattle.machine.specs.Moves.{restored, resumed, settled};
 ghost use Rattle.tokenizer.specs.View.{machine};
 
 use crate::tokenizer::Tokenizer;
-use machine::{Attempt, Progress, State};
+use machine::{Attempt, AttemptKind, Progress, State};
 
 impl Tokenizer {
     // Later events and names are dropped. Registers stay.
@@ -20,7 +20,7 @@ impl Tokenizer {
     pub fn resume(&mut self, ok: bool, attempt: Attempt)
         ensures { machine self.new ≡ resumed ok attempt (machine self.old) }
     {
-        if attempt.check || !ok {
+        if attempt.kind == AttemptKind::Check || !ok {
             if let Some(progress) = attempt.progress {
                 self.put_back(progress);
             }
