@@ -16,7 +16,7 @@ pub fn may_precede_www(previous: Option<u8>) -> bool
 pub fn is_after_letter(previous: Option<u8>) -> bool
     ensures { result ≡ on letter previous }
 {
-    matches!(previous, Some(b'A'..=b'Z' | b'a'..=b'z'))
+    previous.is_some_and(|byte| byte.is_ascii_alphabetic())
 }
 
 // At these a trail may end a path.

@@ -1,10 +1,10 @@
 // The states. Their names are those of the Rust functions; docs/ENGINE.md, sections 6 and 7, has a row for each arm.
-ghost use Rattle.std.specs.Prelude.{◌≡◌, ◌+◌, ◌-◌, ◌≤◌, true, if◌then◌else◌, vec_len};
+ghost use Rattle.std.specs.Prelude.{◌≡◌, true, if◌then◌else◌, vec_len};
 ghost use Rattle.punctuation.specs.Kinds.{kind_at};
 ghost use Rattle.machine.specs.declared.states.State.TheVariants.{Retry, Ok, Nok};
 ghost use Rattle.machine.specs.declared.states.StateName.TheVariants.{DomainInside, DomainAfter, PathInside, PathAfter};
-ghost use Rattle.machine.specs.Moves.{with_state, next, saw, sized, sized_b};
-ghost use Rattle.machine.specs.States.{call, call_domain_after, is_other, is_white_space, kind_here, unclosed, protocol_read, domain_fails};
+ghost use Rattle.machine.specs.Moves.{with_state, next, saw};
+ghost use Rattle.machine.specs.States.{call, is_other, is_white_space, kind_here};
 ghost use Rattle.tokenizer.specs.Bounds.{Within, Callable};
 ghost use Rattle.tokenizer.specs.View.{machine};
 
@@ -15,62 +15,6 @@ use machine::{Name, State, StateName};
 use punctuation::kinds::{CharacterKind, classify};
 use punctuation::sets::PunctuationSet;
 use text::SpanKind;
-use tokenizer::Tokenizer;
-
-// A parenthesis of the path is open.
-pub fn is_unclosed(tokenizer: &Tokenizer) -> bool
-    ensures { result ≡ unclosed (machine tokenizer.now) }
-{
-    tokenizer.registers.size_b < tokenizer.registers.size
-}
-
-// A `_` in one of the last two parts of the domain, or nothing but joints.
-pub fn domain_fails(tokenizer: &Tokenizer) -> bool
-    ensures { result ≡ domain_fails (machine tokenizer.now) }
-{
-    tokenizer.registers.marker_b || tokenizer.registers.marker || !tokenizer.registers.seen
-}
-
-// The name of a protocol has been read: `http` or `https`, in any case.
-pub fn is_protocol_read(tokenizer: &Tokenizer) -> bool
-    requires order { tokenizer.now.registers.start ≤ tokenizer.now.cursor.point.index }
-    requires within { tokenizer.now.cursor.point.index ≤ vec_len tokenizer.now.note }
-    ensures { result ≡ protocol_read (machine tokenizer.now) }
-{
-    let name = &tokenizer.note.as_slice()[tokenizer.registers.start..tokenizer.cursor.point.index];
-    name.eq_ignore_ascii_case(b"http") || name.eq_ignore_ascii_case(b"https")
-}
-
-// How many letters of the protocol's name have been read.
-pub fn name_length(tokenizer: &Tokenizer) -> usize
-    requires { tokenizer.now.registers.start ≤ tokenizer.now.cursor.point.index }
-    ensures { result ≡ tokenizer.now.cursor.point.index - tokenizer.now.registers.start }
-{
-    tokenizer.cursor.point.index - tokenizer.registers.start
-}
-
-// The domain is read: whether it is valid decides, and what was noted of it is forgotten.
-pub fn leave_domain(tokenizer: &mut Tokenizer)
-    ensures { machine tokenizer.new ≡ call_domain_after (machine tokenizer.old) }
-{
-    let fails = domain_fails(tokenizer);
-    tokenizer.set_seen(false);
-    tokenizer.set_markers(false, false);
-    if fails {
-        tokenizer.go(State::Nok);
-    } else {
-        tokenizer.go(State::Retry(StateName::PathInside));
-    }
-}
-
-// The path is read: its parentheses are forgotten.
-pub fn leave_path(tokenizer: &mut Tokenizer)
-    ensures { machine tokenizer.new ≡ with_state Ok (sized 0 (sized_b 0 (machine tokenizer.old))) }
-{
-    tokenizer.set_size_b(0);
-    tokenizer.set_size(0);
-    tokenizer.go(State::Ok);
-}
 
 impl<S: PunctuationSet> Engine<S> {
     // The kind of the character at the point.
@@ -81,11 +25,10 @@ impl<S: PunctuationSet> Engine<S> {
     {
         let index = self.tokenizer.cursor.point.index;
         // most characters are ASCII: one byte, and nothing to decode
-        if index < self.tokenizer.note.len() {
-            let byte = self.tokenizer.note[index];
-            if byte < 128 {
-                return classify(char::from(byte), &mut self.set);
-            }
+        if let Some(byte) = self.tokenizer.note.get(index)
+            && byte.is_ascii()
+        {
+            return classify(char::from(*byte), &mut self.set);
         }
         match char_at(self.tokenizer.note.as_slice(), index) {
             None => CharacterKind::Whitespace,
@@ -185,10 +128,10 @@ impl<S: PunctuationSet> Engine<S> {
             }
             (StateName::ProtocolStart, _) => self.tokenizer.go(State::Nok),
             (StateName::ProtocolPrefixInside, Some(b'A'..=b'Z' | b'a'..=b'z'))
-                if name_length(&self.tokenizer) < 5 => {
+                if self.tokenizer.name_length() < 5 => {
                 self.tokenizer.next(StateName::ProtocolPrefixInside);
             }
-            (StateName::ProtocolPrefixInside, Some(b':')) if is_protocol_read(&self.tokenizer) => {
+            (StateName::ProtocolPrefixInside, Some(b':')) if self.tokenizer.is_protocol_read() => {
                 self.tokenizer.next(StateName::ProtocolSlashesInside);
                 self.tokenizer.set_start(0);
             }
@@ -266,7 +209,7 @@ impl<S: PunctuationSet> Engine<S> {
                 self.tokenizer.next(StateName::DomainInside);
                 self.tokenizer.set_markers(false, marker);
             }
-            (StateName::DomainAfter, _) => leave_domain(&mut self.tokenizer),
+            (StateName::DomainAfter, _) => self.tokenizer.leave_domain(),
             // ---- paths
             (StateName::PathInside, Some(0x80..=0xBF)) => self
                 .tokenizer
@@ -276,7 +219,7 @@ impl<S: PunctuationSet> Engine<S> {
                 self.tokenizer.next(StateName::PathInside);
                 self.tokenizer.set_size(size);
             }
-            (StateName::PathInside, Some(b')')) if is_unclosed(&self.tokenizer) => {
+            (StateName::PathInside, Some(b')')) if self.tokenizer.is_unclosed() => {
                 self.tokenizer.check(
                     State::Next(StateName::PathAtPunctuation),
                     State::Next(StateName::PathAtPunctuation),
@@ -298,9 +241,9 @@ impl<S: PunctuationSet> Engine<S> {
                 self.tokenizer.set_size_b(size_b);
             }
             (StateName::PathAtPunctuation, _) => self.tokenizer.next(StateName::PathInside),
-            (StateName::PathAfter, _) => leave_path(&mut self.tokenizer),
+            (StateName::PathAfter, _) => self.tokenizer.leave_path(),
             // ---- trails
-            (StateName::Trail, Some(b')')) if is_unclosed(&self.tokenizer) => self
+            (StateName::Trail, Some(b')')) if self.tokenizer.is_unclosed() => self
                 .tokenizer
                 .go(State::Nok),
             (

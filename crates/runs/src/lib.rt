@@ -18,17 +18,18 @@ pub fn run<S: PunctuationSet>(engine: &mut Engine<S>, until: Until, allowance: u
     ensures ran { outcome_of (machine engine.new.tokenizer) result ≡ run (S.member engine.old.set) until allowance (machine engine.old.tokenizer) }
     ensures meaning_stays { S.member engine.new.set ≡ S.member engine.old.set }
 {
-    let mut steps = 0;
-    loop {
+    for steps in 0..allowance {
         engine.tokenizer.prepare(until);
         let Some(name) = engine.tokenizer.due(until) else {
             return Ran { steps, done: true };
         };
-        if steps == allowance {
-            return Ran { steps, done: false };
-        }
         engine.tokenizer.show();
         engine.call(name);
-        steps += 1;
+    }
+    engine.tokenizer.prepare(until);
+    let done = engine.tokenizer.due(until).is_none();
+    Ran {
+        steps: allowance,
+        done,
     }
 }

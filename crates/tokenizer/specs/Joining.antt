@@ -5,7 +5,7 @@ use Rattle.std.specs.Vec.{with_item}
 use Rattle.machine.specs.declared.events.Event.{Event}
 use Rattle.machine.specs.Laws.{enters, same_name}
 use Rattle.machine.specs.Joins.{joined}
-use Rattle.tokenizer.specs.declared.event_table.EventTable.{EventTable}
+use Rattle.tokenizer.specs.declared.table.Table.{Table}
 
 -- each enter is followed by an exit of its name
 abbrev pub paired : List Event → Bool
@@ -17,5 +17,5 @@ paired (a ∷ b ∷ es) = (enters a.kind && not (enters b.kind)) && (same_name a
 abbrev pub joined_from : ℕ → ℕ → List Event → List Event
 joined_from kept next es = take (kept - 1) es ++ joined (drop (kept - 1) (take kept es) ++ drop next es)
 
-abbrev pub with_event : EventTable → ℕ → Event → EventTable
+abbrev pub with_event : {N : ℕ} → Table Event N → ℕ → Event → Table Event N
 with_event t i e = record { items = with_item t.items i e; reserved = t.reserved }

@@ -6,4 +6,4 @@ use Rattle.tokenizer.specs.Stack.{stack}
 use Rattle.tokenizer.specs.declared.tokenizer.Tokenizer.{Tokenizer}
 
 abbrev pub machine : Tokenizer → Machine
-machine t = made_of (vec_items t.note) t.state t.cursor t.registers (stack t.attempts) (vec_items t.events.items) (vec_items t.names)
+machine t = made_of (vec_items t.note) t.state t.cursor t.registers (stack t.attempts) (vec_items t.events.items) (vec_items t.names.items)

@@ -6,11 +6,12 @@
 pub mod attempts;
 pub mod event_table;
 pub mod joining;
+pub mod links;
 pub mod loading;
 pub mod moves;
 pub mod settling;
 pub mod showing;
-pub mod stack;
+pub mod table;
 pub mod tokenizer;
 
 pub use tokenizer::Tokenizer;

@@ -4,12 +4,14 @@ ghost use Rattle.std.specs.Prelude.{◌≡◌, ◌+◌, ◌<◌, ◌≤◌, fals
 ghost use Rattle.machine.specs.Cursors.{crlf_at, moved, shown_at, before_cr, event};
 ghost use Rattle.machine.specs.Moves.{with_state, consumed, next, sized, sized_b, saw, marked, started, entered, exited, captured, checked, attempted, kept_for};
 ghost use Rattle.machine.specs.States.{www_begun, protocol_begun};
-ghost use Rattle.tokenizer.specs.Bounds.{Within};
+ghost use Rattle.tokenizer.specs.Bounds.{Within, TakesEvent, TakesSpan};
 ghost use Rattle.tokenizer.specs.Stack.{stack};
 ghost use Rattle.tokenizer.specs.View.{machine};
 
+use crate::attempts::ATTEMPTS_ROOM;
 use crate::tokenizer::Tokenizer;
 use machine::{Attempt, AttemptKind, Cursor, Event, EventKind, Name, Progress, State, StateName};
+use text::notes::LONGEST_NOTE;
 use text::{Point, SpanKind};
 
 // A tab fills up to a column of the form TAB_SIZE * k + 1.
@@ -121,19 +123,16 @@ impl Tokenizer {
 
     // Whether a CR stands at `index`, and an LF follows.
     pub fn is_cr_before_lf(&self, index: usize) -> bool
-        requires { index ≤ 1024 }
+        requires { index ≤ LONGEST_NOTE }
         ensures { result ≡ crlf_at self.now.note.items index }
     {
-        if index + 1 < self.note.len() {
-            self.note[index] == b'\r' && self.note[index + 1] == b'\n'
-        } else {
-            false
-        }
+        matches!(self.note.get(index), Some(b'\r'))
+            && matches!(self.note.get(index + 1), Some(b'\n'))
     }
 
     // An event at the point; in front of a CR that was passed over.
     pub fn event_here(&self, kind: EventKind, name: Name) -> Event
-        requires { self.now.cursor.point.index ≤ 1024 }
+        requires { self.now.cursor.point.index ≤ LONGEST_NOTE }
         ensures { result ≡ event self.now.note.items kind name self.now.cursor.point }
     {
         let mut point = self.cursor.point;
@@ -144,23 +143,20 @@ impl Tokenizer {
     }
 
     pub fn enter(&mut self, name: Name)
-        requires events { vec_len self.old.events.items < 2176 }
-        requires names { vec_len self.old.names < 2 }
-        requires index { self.old.cursor.point.index ≤ 1024 }
+        requires { TakesSpan (machine self.old) }
         ensures { machine self.new ≡ entered name (machine self.old) }
     {
         let event = self.event_here(EventKind::Enter, name);
-        self.events.items.push_reserved(event);
-        self.names.push_reserved(name);
+        self.events.push(event);
+        self.names.push(name);
     }
 
     pub fn exit(&mut self, name: Name)
-        requires events { vec_len self.old.events.items < 2176 }
-        requires index { self.old.cursor.point.index ≤ 1024 }
+        requires { TakesEvent (machine self.old) }
         ensures { machine self.new ≡ exited name (machine self.old) }
     {
         let event = self.event_here(EventKind::Exit, name);
-        self.events.items.push_reserved(event);
+        self.events.push(event);
         let _ = self.names.pop();
     }
 
@@ -172,12 +168,12 @@ impl Tokenizer {
         Progress {
             cursor: self.cursor,
             events: self.events.items.len(),
-            names: self.names.len(),
+            names: self.names.items.len(),
         }
     }
 
     pub fn check(&mut self, ok: State, nok: State)
-        requires { length (stack self.old.attempts) < 5 }
+        requires { length (stack self.old.attempts) < ATTEMPTS_ROOM }
         ensures { machine self.new ≡ checked ok nok (machine self.old) }
     {
         let progress = Some(self.capture());
@@ -200,7 +196,7 @@ impl Tokenizer {
     }
 
     pub fn attempt(&mut self, ok: State, nok: State)
-        requires { length (stack self.old.attempts) < 5 }
+        requires { length (stack self.old.attempts) < ATTEMPTS_ROOM }
         ensures { machine self.new ≡ attempted ok nok (machine self.old) }
     {
         let progress = self.capture_for(nok);
@@ -218,9 +214,7 @@ impl Tokenizer {
 impl Tokenizer {
     // Enters a protocol; tries its name and slashes, then the rest.
     pub fn begin_protocol(&mut self)
-        requires events { vec_len self.old.events.items < 2176 }
-        requires names { vec_len self.old.names < 2 }
-        requires index { self.old.cursor.point.index ≤ 1024 }
+        requires span { TakesSpan (machine self.old) }
         requires attempts { length (stack self.old.attempts) ≤ 3 }
         ensures { machine self.new ≡ protocol_begun (machine self.old) }
     {
@@ -233,9 +227,7 @@ impl Tokenizer {
 
     // Enters a `www.` link; checks for `www.`, then tries the rest.
     pub fn begin_www(&mut self)
-        requires events { vec_len self.old.events.items < 2176 }
-        requires names { vec_len self.old.names < 2 }
-        requires index { self.old.cursor.point.index ≤ 1024 }
+        requires span { TakesSpan (machine self.old) }
         requires attempts { length (stack self.old.attempts) ≤ 3 }
         ensures { machine self.new ≡ www_begun (machine self.old) }
     {
@@ -246,8 +238,7 @@ impl Tokenizer {
 
     // Enters a span and moves past its first byte.
     pub fn enter_and_next(&mut self, name: Name, state: StateName)
-        requires events { vec_len self.old.events.items < 2176 }
-        requires names { vec_len self.old.names < 2 }
+        requires span { TakesSpan (machine self.old) }
         requires within { Within (vec_len self.old.note) self.old.cursor }
         ensures { machine self.new ≡ next state (entered name (machine self.old)) }
     {

@@ -12,7 +12,7 @@ impl Tokenizer {
         ensures { machine self.new ≡ restored (Some progress) (machine self.old) }
     {
         self.cursor = progress.cursor;
-        self.events.items.truncate(progress.events);
+        self.events.truncate(progress.events);
         self.names.truncate(progress.names);
     }
 
@@ -20,10 +20,10 @@ impl Tokenizer {
     pub fn resume(&mut self, ok: bool, attempt: Attempt)
         ensures { machine self.new ≡ resumed ok attempt (machine self.old) }
     {
-        if attempt.kind == AttemptKind::Check || !ok {
-            if let Some(progress) = attempt.progress {
-                self.put_back(progress);
-            }
+        if (attempt.kind == AttemptKind::Check || !ok)
+            && let Some(progress) = attempt.progress
+        {
+            self.put_back(progress);
         }
         self.state = if ok { attempt.ok } else { attempt.nok };
     }

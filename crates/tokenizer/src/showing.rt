@@ -7,11 +7,12 @@ ghost use Rattle.tokenizer.specs.View.{machine};
 
 use crate::tokenizer::Tokenizer;
 use machine::{State, StateName, Until};
+use text::notes::LONGEST_NOTE;
 
 impl Tokenizer {
     // Passes over a CR before an LF, once the CR may be read.
     pub fn pass(&mut self, until: Until)
-        requires { self.old.cursor.point.index ≤ 1024 }
+        requires { self.old.cursor.point.index ≤ LONGEST_NOTE }
         ensures { machine self.new ≡ passed until (machine self.old) }
     {
         if let State::Next(_) = self.state {
@@ -24,7 +25,7 @@ impl Tokenizer {
 
     // Settles what has its answer, and passes over a CR.
     pub fn prepare(&mut self, until: Until)
-        requires { (settled (machine self.old)).cursor.point.index ≤ 1024 }
+        requires { (settled (machine self.old)).cursor.point.index ≤ LONGEST_NOTE }
         ensures { machine self.new ≡ prepared until (machine self.old) }
     {
         self.settle();
@@ -36,13 +37,7 @@ impl Tokenizer {
         ensures { result ≡ due until (machine self.now) }
     {
         match self.state {
-            State::Next(name) => {
-                if until.may_show(self.cursor.point.index) {
-                    Some(name)
-                } else {
-                    None
-                }
-            }
+            State::Next(name) => until.may_show(self.cursor.point.index).then_some(name),
             State::Retry(name) => Some(name),
             State::Ok | State::Nok => None,
         }
@@ -52,11 +47,7 @@ impl Tokenizer {
     pub fn look(&self) -> Option<u8>
         ensures { result ≡ shown_at self.now.note.items self.now.cursor.point }
     {
-        let index = self.cursor.point.index;
-        if index >= self.note.len() {
-            return None;
-        }
-        match self.note[index] {
+        match *self.note.get(self.cursor.point.index)? {
             b'\r' => Some(b'\n'),
             b'\t' if self.cursor.point.vs > 0 => Some(b' '),
             byte => Some(byte),

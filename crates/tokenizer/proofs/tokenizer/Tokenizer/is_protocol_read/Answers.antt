@@ -2,7 +2,7 @@ use Rattle.std.proofs.cmp.Tests.{cases_from_iff}
 use Rattle.std.proofs.Common.{codes, refl, arith}
 use Rattle.std.proofs.lemmas.Bool.Decides.{nat_tests}
 use Rattle.text.proofs.Words.{reads_when}
-use Rattle.engine.proofs.state.is_protocol_read.Goals as goal
+use Rattle.tokenizer.proofs.tokenizer.Tokenizer.is_protocol_read.Goals as goal
 
 pub returns-then-eq_ignore_ascii_case : goal.returns-then-eq_ignore_ascii_case
 returns-then-eq_ignore_ascii_case c =
