@@ -9,7 +9,7 @@ use Rattle.tokenizer.specs.View.{machine}
 use Rattle.reader.specs.declared.reader.Reader.{Reader}
 
 abbrev pub view : {S : Type 0} → Reader S → Model
-view r = record { phase = r.phase; mark = r.mark; paused = r.paused; machine = machine r.engine.tokenizer; links = vec_items r.links }
+view r = record { phase = r.phase; mark = r.mark; paused = r.paused; machine = machine r.engine.tokenizer; links = vec_items r.links.items }
 
 abbrev pub events_held : {S : Type 0} → Reader S → List Event
 events_held r = (view r).machine.events

@@ -18,10 +18,7 @@ impl<S> Reader<S> {
     pub fn event(&self, index: usize) -> Result<Event, Fault>
         ensures { (e : Event) → result ≡ event_answer (events_held self.now) index e }
     {
-        if index >= self.event_count() {
-            return Err(Fault::NoSuchEvent);
-        }
-        Ok(self.engine.tokenizer.events.items[index])
+        self.events().get(index).copied().ok_or(Fault::NoSuchEvent)
     }
 
     // All of them.

@@ -1,16 +1,20 @@
 // What a reader holds: docs/ENGINE.md, section 2. Its calls are in the modules below.
-ghost use Rattle.std.specs.Prelude.{◌≤◌, vec_items, vec_capacity};
 ghost use Rattle.tokenizer.specs.View.{machine};
 ghost use Rattle.reader.specs.Kept.{Kept};
 
 use calls::{MarkedRun, Phase};
 use engine::Engine;
+use tokenizer::table::Table;
 
 mod events;
-mod phases;
+mod making;
 mod reading;
 
+// Links that may be marked in one note.
+const LINKS_ROOM: usize = 64;
+
 // One note at a time, read with the reader's punctuation set.
+// Kept: `mark` and `paused` are no fields of Phase::Loaded, since the definition (calls/specs/Calls) tells them in every phase.
 #[derive(Drop)]
 pub struct Reader<S> {
     engine: Engine<S>,
@@ -19,7 +23,6 @@ pub struct Reader<S> {
     mark: usize,
     // whether the last accepted push paused
     paused: bool,
-    links: Vec<MarkedRun>,
-    ghost reserved: { 64 ≤ vec_capacity links },
+    links: Table<MarkedRun, LINKS_ROOM>,
     ghost kept: { ∥ Kept phase (machine engine.tokenizer) ∥₁ },
 }

@@ -5,7 +5,6 @@ ghost use Rattle.calls.specs.Calls.{new, load, push, end, unread};
 ghost use Rattle.reader.specs.View.{view};
 
 use super::Reader;
-use super::phases::{is_empty, is_loaded, is_over};
 use calls::Phase;
 use machine::{Ran, Until};
 use punctuation::sets::PunctuationSet;
@@ -21,14 +20,14 @@ impl<S: PunctuationSet> Reader<S> {
         ensures refused { OnErr result (self.new ≡ self.old) }
     {
         check_length(note)?;
-        if !is_empty(self.phase) {
+        if !self.phase.is_empty() {
             return Err(Fault::AlreadyLoaded);
         }
         self.engine.tokenizer.restart(note);
         self.phase = Phase::Loaded;
         self.mark = 0;
         self.paused = false;
-        self.links.truncate(0);
+        self.links.clear();
         Ok(())
     }
 
@@ -39,10 +38,10 @@ impl<S: PunctuationSet> Reader<S> {
         ensures meaning_stays { S.member self.new.engine.set ≡ S.member self.old.engine.set }
         ensures refused { OnErr result (self.new ≡ self.old) }
     {
-        if is_empty(self.phase) {
+        if self.phase.is_empty() {
             return Err(Fault::NothingLoaded);
         }
-        if !is_loaded(self.phase) {
+        if !self.phase.is_loaded() {
             return Err(Fault::OutOfTurn);
         }
         if allowance == 0 {
@@ -65,10 +64,10 @@ impl<S: PunctuationSet> Reader<S> {
         ensures meaning_stays { S.member self.new.engine.set ≡ S.member self.old.engine.set }
         ensures refused { OnErr result (self.new ≡ self.old) }
     {
-        if is_empty(self.phase) {
+        if self.phase.is_empty() {
             return Err(Fault::NothingLoaded);
         }
-        if is_over(self.phase) {
+        if self.phase.is_over() {
             return Err(Fault::OutOfTurn);
         }
         if allowance == 0 {
@@ -91,7 +90,7 @@ impl<S: PunctuationSet> Reader<S> {
     fn is_unread(&self) -> bool
         ensures { result ≡ unread (view self.now) }
     {
-        is_loaded(self.phase) && (self.mark < self.engine.tokenizer.note.len() || self.paused)
+        self.phase.is_loaded() && (self.mark < self.engine.tokenizer.note.len() || self.paused)
     }
 
     // As new.
@@ -103,6 +102,6 @@ impl<S: PunctuationSet> Reader<S> {
         self.phase = Phase::Empty;
         self.mark = 0;
         self.paused = false;
-        self.links.truncate(0);
+        self.links.clear();
     }
 }

@@ -12,12 +12,8 @@ join-requires g c =
     (ap (λ (o : Outcome). o.after) c.run-ran.ensures.ran) c.args.self.now.kept
     (sym (ap (λ (o : Outcome). o.done) c.run-ran.ensures.ran) ∙ c.if-ran.true)
 
-pub invariant_of-self : goal.invariant_of-self
-invariant_of-self g c = record { reserved = c.args.self.now.reserved; kept = ∣ tt ∣₁ }
-
 pub invariant_of-self-else-ran : goal.invariant_of-self-else-ran
 invariant_of-self-else-ran g c = record {
-  reserved = c.args.self.now.reserved;
   kept =
       end_kept c.args.self.now.phase (g.S.PunctuationSet.member c.args.self.now.engine.set) c.args.allowance
       (machine c.args.self.now.engine.tokenizer) (machine c.run-ran.new.engine.tokenizer)

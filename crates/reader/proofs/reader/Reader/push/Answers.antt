@@ -7,7 +7,6 @@ use Rattle.reader.proofs.reader.Reader.push.Goals as goal
 
 pub invariant_of-self : goal.invariant_of-self
 invariant_of-self g c = record {
-  reserved = c.args.self.now.reserved;
   kept =
       push_kept c.args.self.now.phase (g.S.PunctuationSet.member c.args.self.now.engine.set) (Mark c.args.to) c.args.allowance
       (machine c.args.self.now.engine.tokenizer) (machine c.run-ran.new.engine.tokenizer)

@@ -1,6 +1,6 @@
-// A new reader, and tests of its phase.
+// A new reader.
 ghost use Rattle.std.specs.Prelude.{◌≡◌, IfOk};
-ghost use Rattle.calls.specs.Calls.{new, is_empty, is_loaded, is_over};
+ghost use Rattle.calls.specs.Calls.{new};
 ghost use Rattle.reader.specs.View.{view};
 
 use super::Reader;
@@ -9,6 +9,7 @@ use engine::Engine;
 use punctuation::sets::PunctuationSet;
 use std::alloc::{AllocError, Global};
 use tokenizer::Tokenizer;
+use tokenizer::table::Table;
 
 impl<S: PunctuationSet + Drop> Reader<S> {
     // Reserves all memory that the reader will ever have: no other call allocates.
@@ -17,7 +18,7 @@ impl<S: PunctuationSet + Drop> Reader<S> {
         ensures set { IfOk result (λ reader. reader.engine.set ≡ set) }
     {
         let tokenizer = Tokenizer::new(heap)?;
-        let links = Vec::with_capacity(heap, 64)?;
+        let links = Table::new(heap)?;
         Ok(Reader {
             engine: Engine { tokenizer, set },
             phase: Phase::Empty,
@@ -26,22 +27,4 @@ impl<S: PunctuationSet + Drop> Reader<S> {
             links,
         })
     }
-}
-
-pub(super) fn is_empty(phase: Phase) -> bool
-    ensures { result ≡ is_empty phase }
-{
-    matches!(phase, Phase::Empty)
-}
-
-pub(super) fn is_loaded(phase: Phase) -> bool
-    ensures { result ≡ is_loaded phase }
-{
-    matches!(phase, Phase::Loaded)
-}
-
-pub(super) fn is_over(phase: Phase) -> bool
-    ensures { result ≡ is_over phase }
-{
-    matches!(phase, Phase::Ended | Phase::Resolved)
 }
