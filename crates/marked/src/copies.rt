@@ -12,6 +12,7 @@ use edit_map::EditMap;
 use rules::notes::find_note_addresses;
 use text::lent::check_room;
 use text::notes::LONGEST_NOTE;
+use text::spans::NO_SPAN;
 use text::{Fault, Span, SpanKind};
 
 // A note of 1,024 bytes has no more addresses: each has at least 5 bytes.
@@ -22,12 +23,6 @@ const MARK_SIZE: usize = 3;
 
 // No marked copy has more bytes.
 pub const LONGEST_COPY: usize = LONGEST_NOTE + MARK_SIZE * MOST_ADDRESSES;
-
-const NO_SPAN: Span = Span {
-    kind: SpanKind::Email,
-    from: 0,
-    to: 0,
-};
 
 // Writes the marked copy of a note to the front of `out`, and answers how many bytes that is. The copy is made by edits
 // in `map`, which forgets the edits that it has kept.
