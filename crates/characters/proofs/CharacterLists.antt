@@ -51,3 +51,23 @@ first_then s i c w e is =
     let one : length s - i ≡ suc k = omega arith in
     let rest : next_characters k s (i + w) ≡ characters_from s (i + w) = enough k (length s - (i + w)) s (i + w) (omega (arith, is, wide s i lt)) (omega arith) in
     ap (λ n. next_characters n s i) one ∙ ap (λ r. with_place i r (next_characters k s (i + character_width s i))) (sym e) ∙ ap (λ v. (i, c) ∷ next_characters k s (i + v)) (sym is) ∙ ap (λ l. (i, c) ∷ l) rest
+
+nothing_at_end : (s : List ℕ) (i : ℕ) → length s ≤ i → characters_from s i ≡ []
+nothing_at_end s i le = none_left (length s - i) s i (none-at_end s i le)
+
+same_first : (i j c d : ℕ) (xs ys : List (ℕ × ℕ)) → ◌≡◌ {A = List (ℕ × ℕ)} ((j, c) ∷ xs) ((i, d) ∷ ys) → (j ≡ i) × (xs ≡ ys)
+same_first i j c d xs ys e = let p : ◌≡◌ {A = ℕ × ℕ} (j, c) (i, d) = cc in (ap (λ q. q.0) p, cc)
+
+no_first : (p : ℕ × ℕ) (xs : List (ℕ × ℕ)) → [] ≡ p ∷ xs → ⊥
+no_first p xs e = omega (arith, ap length e)
+
+-- what is first is the character at the place, within the bytes, and the others come after it
+pub first_is : (s : List ℕ) (i j c : ℕ) (others : List (ℕ × ℕ)) → characters_from s i ≡ (j, c) ∷ others → (j ≡ i) × (i < length s) × (others ≡ characters_from s (i + character_width s i))
+first_is s i j c others e =
+    ⊎_elim
+    (λ lt.
+    let here : Some (character (drop i s)) ≡ character_at s i = sym (cond-true _ _ _ (lt-ltb i (length s) lt)) in
+    let same = same_first i j c (character (drop i s)) others (characters_from s (i + character_width s i)) (sym e ∙ first_then s i (character (drop i s)) (character_width s i) here refl) in
+    (same.0, lt, same.1))
+    (λ le. absurd (no_first (j, c) others (sym (nothing_at_end s i le) ∙ e)))
+    (cases_lt i (length s))

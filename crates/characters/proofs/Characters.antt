@@ -167,6 +167,13 @@ four_read (a ∷ b ∷ d ∷ e ∷ rest) h = four_begins a b d e rest (four_fact
 none_of : (bs : List ℕ) → shaped one_byte bs ≡ false → shaped two_bytes bs ≡ false → shaped three_bytes bs ≡ false → shaped four_bytes bs ≡ false → 65533 ≡ character bs
 none_of bs h1 h2 h3 h4 = sym (cond-false _ _ _ h1 ∙ cond-false _ _ _ h2 ∙ cond-false _ _ _ h3 ∙ cond-false _ _ _ h4)
 
+pub none_of_three : (bs : List ℕ) → 3 ≤ length bs → length bs < 4 → shaped one_byte (get_or bs 0 0 ∷ []) ≡ false → shaped two_bytes (get_or bs 0 0 ∷ get_or bs 1 0 ∷ []) ≡ false → shaped three_bytes (get_or bs 0 0 ∷ get_or bs 1 0 ∷ get_or bs 2 0 ∷ []) ≡ false → 65533 ≡ character bs
+none_of_three [] l u h1 h2 h3 = absurd (omega arith)
+none_of_three (a ∷ []) l u h1 h2 h3 = absurd (omega arith)
+none_of_three (a ∷ b ∷ []) l u h1 h2 h3 = absurd (omega arith)
+none_of_three (a ∷ b ∷ c ∷ []) l u h1 h2 h3 = let h4 : shaped four_bytes (a ∷ b ∷ c ∷ []) ≡ false = grind (arith, nat_tests) in none_of (a ∷ b ∷ c ∷ []) h1 h2 h3 h4
+none_of_three (a ∷ b ∷ c ∷ d ∷ r) l u h1 h2 h3 = absurd (omega arith)
+
 -- what is read is U+FFFD, or a scalar value whose encoding the bytes begin with
 pub read : (bs : List ℕ) → (character bs ≡ 65533) ⊎ Begins bs (character bs)
 read bs =
@@ -260,13 +267,6 @@ module _ (rest : List ℕ) where
       (cases_lt c 65536))
       (cases_lt c 2048))
       (cases_lt c 128)
-
--- three bytes that fit a row
-pub three_here : (bs : List ℕ) (n : ℕ) → 3 ≤ length bs → (224 ≤ get_or bs 0 0) × (get_or bs 0 0 ≤ 239) → (128 ≤ get_or bs 1 0) × (get_or bs 1 0 ≤ 191) → (128 ≤ get_or bs 2 0) × (get_or bs 2 0 ≤ 191) → (224 < get_or bs 0 0) ⊎ (160 ≤ get_or bs 1 0) → (get_or bs 0 0 < 237) ⊎ ((get_or bs 1 0 ≤ 159) ⊎ (237 < get_or bs 0 0)) → n ≡ ((get_or bs 0 0 - 224) * 64 + (get_or bs 1 0 - 128)) * 64 + (get_or bs 2 0 - 128) → n ≡ character bs
-three_here [] n l a b d first third e = absurd (omega arith)
-three_here (x ∷ []) n l a b d first third e = absurd (omega arith)
-three_here (x ∷ y ∷ []) n l a b d first third e = absurd (omega arith)
-three_here (x ∷ y ∷ z ∷ rest) n l a b d first third e = e ∙ sym (read_three rest x y z a.0 a.1 b.0 b.1 d.0 d.1 first third)
 
 -- ---- at a place
 

@@ -35,6 +35,15 @@ four_bytes =
     ((0xF4, 0xF4) ∷ (0x80, 0x8F) ∷ (0x80, 0xBF) ∷ (0x80, 0xBF) ∷ []) ∷
     []
 
+-- the rows of n bytes
+abbrev pub rows_of : ℕ → List Row
+rows_of zero = []
+rows_of (suc zero) = one_byte
+rows_of (suc (suc zero)) = two_bytes
+rows_of (suc (suc (suc zero))) = three_bytes
+rows_of (suc (suc (suc (suc zero)))) = four_bytes
+rows_of (suc (suc (suc (suc (suc n))))) = []
+
 -- the bytes begin with a byte of each range of the row, in order
 abbrev pub begin_with : Row → List ℕ → Bool
 begin_with [] bs = true

@@ -1,7 +1,7 @@
 // The character at a place of some bytes, by Unicode's table of well-formed byte sequences.
 ghost use Rattle.std.specs.Prelude.{◌≡◌, ◌+◌, ◌-◌, ◌*◌, ◌<◌, ◌≤◌};
 ghost use Rattle.characters.specs.CharacterExamples.{CharactersRead};
-ghost use Rattle.characters.specs.Utf8.{character, character_at, EncodedIsRead, ReadIsEncoded};
+ghost use Rattle.characters.specs.Utf8.{rows_of, shaped, character, character_at, EncodedIsRead, ReadIsEncoded};
 
 // The character that begins at `index`, `None` at the end of the bytes and past it.
 // A byte that begins no well-formed sequence counts as U+FFFD.
@@ -17,27 +17,39 @@ pub fn char_at(bytes: &[u8], index: usize) -> Option<char>
     char::from_u32(decode(&bytes[index..]))
 }
 
-// The number of the first character. Each line of the patterns is a row of the table.
-#[rattlefmt::skip]
+// The number of the first character.
 fn decode(bytes: &[u8]) -> u32
     ensures { result ≡ character bytes.now }
 {
     match bytes {
-        [a @ 0x00..=0x7F, _rest @ ..] => u32::from(*a),
-        [a @ 0xC2..=0xDF, b @ 0x80..=0xBF, _rest @ ..] => add_six(u32::from(*a - 0xC0), *b),
-        [a @ 0xE0, b @ 0xA0..=0xBF, c @ 0x80..=0xBF, _rest @ ..]
-        | [a @ 0xE1..=0xEC, b @ 0x80..=0xBF, c @ 0x80..=0xBF, _rest @ ..]
-        | [a @ 0xED, b @ 0x80..=0x9F, c @ 0x80..=0xBF, _rest @ ..]
-        | [a @ 0xEE..=0xEF, b @ 0x80..=0xBF, c @ 0x80..=0xBF, _rest @ ..] => {
+        [a, _rest @ ..] if is_well_formed([*a]) => u32::from(*a),
+        [a, b, _rest @ ..] if is_well_formed([*a, *b]) => add_six(u32::from(*a - 0xC0), *b),
+        [a, b, c, _rest @ ..] if is_well_formed([*a, *b, *c]) => {
             add_six(add_six(u32::from(*a - 0xE0), *b), *c)
         }
-        [a @ 0xF0, b @ 0x90..=0xBF, c @ 0x80..=0xBF, d @ 0x80..=0xBF, _rest @ ..]
-        | [a @ 0xF1..=0xF3, b @ 0x80..=0xBF, c @ 0x80..=0xBF, d @ 0x80..=0xBF, _rest @ ..]
-        | [a @ 0xF4, b @ 0x80..=0x8F, c @ 0x80..=0xBF, d @ 0x80..=0xBF, _rest @ ..] => {
+        [a, b, c, d, _rest @ ..] if is_well_formed([*a, *b, *c, *d]) => {
             add_six(add_six(add_six(u32::from(*a - 0xF0), *b), *c), *d)
         }
         _ => 0xFFFD,
     }
+}
+
+// Whether the bytes are those of one character: each line of the patterns is a row of the table.
+fn is_well_formed<const N: usize>(bytes: [u8; N]) -> bool
+    ensures { result ≡ shaped (rows_of N) bytes.entry }
+{
+    matches!(
+        bytes.as_slice(),
+        [0x00..=0x7F]
+            | [0xC2..=0xDF, 0x80..=0xBF]
+            | [0xE0, 0xA0..=0xBF, 0x80..=0xBF]
+            | [0xE1..=0xEC, 0x80..=0xBF, 0x80..=0xBF]
+            | [0xED, 0x80..=0x9F, 0x80..=0xBF]
+            | [0xEE..=0xEF, 0x80..=0xBF, 0x80..=0xBF]
+            | [0xF0, 0x90..=0xBF, 0x80..=0xBF, 0x80..=0xBF]
+            | [0xF1..=0xF3, 0x80..=0xBF, 0x80..=0xBF, 0x80..=0xBF]
+            | [0xF4, 0x80..=0x8F, 0x80..=0xBF, 0x80..=0xBF]
+    )
 }
 
 // The bits so far, and after them the six of a further byte.
