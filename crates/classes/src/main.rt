@@ -2,15 +2,15 @@
 // It shows why a web address ends where it does.
 #![tactic(auto)]
 
-mod counts;
-mod failures;
+mod entries;
 mod tallies;
 
-use characters::utf8::char_at;
-use characters::widths::char_width;
-use failures::Failure;
-use punctuation::CharacterKind;
-use punctuation::kinds::kind_after_index;
+ghost use Rattle.std.specs.Prelude.{◌≡◌, ◌≤◌, length, IfOk};
+ghost use Rattle.classes.specs.Tallies.{tally_of};
+
+use characters::char_indices::char_indices;
+use entries::Entry;
+use punctuation::kinds::classify;
 use punctuation::range_lists::house_set;
 use std::io;
 use std::io::Read;
@@ -19,24 +19,27 @@ use text::Point;
 use text::notes::{LONGEST_NOTE, check_length};
 
 fn main(rt: HostRuntime) -> io::Result<()> {
-    match run(&rt) {
-        Ok(tally) => println!(rt; "{tally}"),
-        Err(Failure::Refused(fault)) => println!(rt; "{fault}"),
-        Err(Failure::Io(error)) => Err(error),
+    let note = read_note(&rt)?;
+    if let Err(fault) = check_length(&note) {
+        return println!(rt; "{fault}");
     }
+    let tally = list_characters(&rt, &note)?;
+    println!(rt; "{tally}")
 }
 
-fn run(rt: &HostRuntime) -> Result<Tally, Failure> {
+fn read_note(rt: &HostRuntime) -> io::Result<Vec<u8>> {
     let mut note = Vec::new(rt.alloc());
     // One byte more than a note may have tells a note that is too long.
     rt.stdin()
         .take(LONGEST_NOTE as u64 + 1)
         .read_to_end(&mut note)?;
-    check_length(&note)?;
-    list_characters(rt, &note)
+    Ok(note)
 }
 
-fn list_characters(rt: &HostRuntime, note: &[u8]) -> Result<Tally, Failure> {
+fn list_characters(rt: &HostRuntime, note: &[u8]) -> io::Result<Tally>
+    requires { length note.now ≤ 1024 }
+    ensures { IfOk result (λ tally. tally ≡ tally_of note.now) }
+{
     let mut set = house_set();
     let mut tally = Tally::new(note.len());
     let mut point = Point {
@@ -45,19 +48,12 @@ fn list_characters(rt: &HostRuntime, note: &[u8]) -> Result<Tally, Failure> {
         index: 0,
         vs: 0,
     };
-    while let Some(c) = char_at(note, point.index) {
-        let kind = kind_after_index(note, point.index, &mut set);
-        print_character(rt, point, c, kind)?;
+    for (index, c) in char_indices(note) {
+        point = point.shift_to(note, index).unwrap();
+        let kind = classify(c, &mut set);
+        let entry = Entry { point, c, kind };
+        println!(rt; "{entry}")?;
         tally.count(kind);
-        point = point.shift_to(note, point.index + char_width(note, point.index))?;
     }
     Ok(tally)
-}
-
-fn print_character(rt: &HostRuntime, point: Point, c: char, kind: CharacterKind) -> io::Result<()> {
-    let line = point.line;
-    let column = point.column;
-    let index = point.index;
-    let code = c as u32;
-    println!(rt; "{line}:{column} {index} U+{code:04X} {kind}")
 }
