@@ -1,4 +1,5 @@
 // Characters at the limits of each row of the table of well-formed sequences, bytes that begin no row, and white space.
+use characters::char_indices::char_indices;
 use characters::utf8::char_at;
 use characters::white_space::is_white_space;
 use characters::widths::char_width;
@@ -78,6 +79,17 @@ fn a_place_inside_at_and_past_the_end(rt: HostRuntime) {
     assert_eq!(rt; char_at(&bytes, 2), Some('\u{FFFD}'));
     assert_eq!(rt; char_at(&bytes, 4), None);
     assert_eq!(rt; char_at(&bytes, usize::MAX), None);
+}
+
+#[test]
+fn characters_in_turn(rt: HostRuntime) {
+    let mut characters = char_indices(&[0x61, 0xE2, 0x80, 0x94, 0x80, 0xC3, 0xA9]);
+    assert_eq!(rt; characters.next(), Some((0, 'a')));
+    assert_eq!(rt; characters.next(), Some((1, '\u{2014}')));
+    assert_eq!(rt; characters.next(), Some((4, '\u{FFFD}')));
+    assert_eq!(rt; characters.next(), Some((5, '\u{E9}')));
+    assert_eq!(rt; characters.next(), None);
+    assert_eq!(rt; char_indices(&[]).next(), None);
 }
 
 // The first and the last character of each range of white space.

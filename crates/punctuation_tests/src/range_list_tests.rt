@@ -1,6 +1,7 @@
 // Range lists: what the check says of them, and which characters they have.
 use punctuation::range_lists::{check_range_list, house_set};
 use punctuation::{PunctuationSet, RangeList};
+use std::array;
 use text::Fault;
 
 #[test]
@@ -44,11 +45,7 @@ fn lists_with_an_unlawful_range(rt: HostRuntime) {
 
 // 513 ranges of two characters each, which touch.
 fn many_numbers() -> [u32; 1026] {
-    let mut numbers = [0; 1026];
-    for i in 0..1026 {
-        numbers[i] = 200 + i as u32;
-    }
-    numbers
+    array::from_fn(|i| 200 + i as u32)
 }
 
 #[test]
