@@ -40,16 +40,9 @@ mod tests {
         for rank in 0..MAIL_EXAMPLES {
             let mut out = [UNTOUCHED; 2];
             let found = find_addresses(example_data(rank), &mut out);
-            match example_address(rank) {
-                Some(address) => {
-                    assert_eq!(rt; found, Ok(1));
-                    assert_eq!(rt; out, [address, UNTOUCHED]);
-                }
-                None => {
-                    assert_eq!(rt; found, Ok(0));
-                    assert_eq!(rt; out, [UNTOUCHED, UNTOUCHED]);
-                }
-            }
+            let address = example_address(rank);
+            assert_eq!(rt; found, Ok(usize::from(address.is_some())));
+            assert_eq!(rt; out, [address.unwrap_or(UNTOUCHED), UNTOUCHED]);
         }
     }
 
@@ -143,8 +136,8 @@ mod tests {
     #[test]
     fn bytes_of_every_value(rt: HostRuntime) {
         let mut note = [0u8; 256];
-        for value in 0..=255u8 {
-            note[value as usize] = value;
+        for (byte, value) in note.iter_mut().zip(0..=255u8) {
+            *byte = value;
         }
         let mut out = [UNTOUCHED; 1];
         assert_eq!(rt; find_note_addresses(&note, &mut out), Ok(0));
