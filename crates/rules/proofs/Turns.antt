@@ -6,7 +6,7 @@ use Rattle.std.proofs.lemmas.Bool.{cases_lt, true≢false}
 use Rattle.text.specs.declared.spans.Span.{Span}
 use Rattle.text.specs.Bytes.{first}
 use Rattle.text.proofs.Firsts.{first_more, first_here, first-end, seek-first}
-use Rattle.rules.specs.InTurn.{Rule, found, next, then_from_its_end, in_turn, all, FoundInTurn, InTextOrder}
+use Rattle.rules.specs.InTurn.{Rule, found, next, or_else, then_from_its_end, in_turn, all, FoundInTurn, InTextOrder}
 
 -- ---- what p gives at the first place from i on where it gives something: not here, here, and none
 
@@ -18,6 +18,13 @@ found_here p s i x lt h = ap p (first_here (λ j. is_some (p j)) s i lt (ap is_s
 
 pub found-end : (p : ℕ → Option Span) (s : List ℕ) (i : ℕ) → length s ≤ i → p i ≡ None → found p s i ≡ None
 found-end p s i le h = ap p (first-end (λ j. is_some (p j)) s i le) ∙ h
+
+by_what : (p : ℕ → Option Span) (s : List ℕ) (i : ℕ) (o : Option Span) → i < length s → p i ≡ o → found p s i ≡ or_else o (found p s (i + 1))
+by_what p s i None lt h = found-more p s i lt h
+by_what p s i (Some x) lt h = found_here p s i x lt h
+
+pub found-or_else : (p : ℕ → Option Span) (s : List ℕ) (i : ℕ) (o : Option Span) → i < length s → o ≡ p i → found p s i ≡ or_else o (found p s (i + 1))
+found-or_else p s i o lt h = by_what p s i o lt (sym h)
 
 none_of : (o : Option Span) → is_some o ≡ false → o ≡ None
 none_of None e = refl

@@ -16,6 +16,11 @@ found p s i = p (first (λ j. is_some (p j)) s i)
 abbrev pub next : Rule → List ℕ → ℕ → Option Span
 next rule s c = found (rule c) s c
 
+-- o, or else what follows
+abbrev pub or_else : Option Span → Option Span → Option Span
+or_else None later = later
+or_else (Some x) later = Some x
+
 abbrev pub then_from_its_end : (ℕ → List Span) → Option Span → List Span
 then_from_its_end rest None = []
 then_from_its_end rest (Some x) = x ∷ rest x.to

@@ -1,6 +1,6 @@
 // Mail addresses in data: docs/RULES.md has the rules in words.
 ghost use Rattle.std.specs.Prelude.{◌≡◌, ◌+◌, ◌-◌, ◌<◌, ◌≤◌, length};
-ghost use Rattle.rules.specs.InTurn.{next};
+ghost use Rattle.rules.specs.InTurn.{found, next, or_else};
 ghost use Rattle.rules.specs.Mail.{atext, local_start, scheme, inner_dot, in_domain, in_resource, resource_stop, address_end, is_xmpp, address_at};
 
 use text::ascii::{is_letter, is_letter_or_digit};
@@ -21,10 +21,11 @@ pub fn next_address(bytes: &[u8], from: usize) -> Option<Span>
     }
 }
 
-// The address whose `@` stands at `at`, where the one before ends at `min`.
+// The address whose `@` stands at `at`, where the one before ends at `min`: if there is one, it is the first from `at` on.
 fn address_at(bytes: &[u8], min: usize, at: usize) -> Option<Span>
     requires { (min ≤ at) × (at < length bytes.now) }
-    ensures { result ≡ address_at bytes.now min at }
+    ensures answer { result ≡ address_at bytes.now min at }
+    ensures first { found (address_at bytes.now min) bytes.now at ≡ or_else result (found (address_at bytes.now min) bytes.now (at + 1)) }
 {
     if bytes[at] != b'@' {
         return None;

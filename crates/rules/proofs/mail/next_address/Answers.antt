@@ -1,18 +1,8 @@
 use Rattle.std.proofs.Common.{◌≡◌, get_or, None, sym, ◌∙◌}
 use Rattle.std.proofs.lemmas.List.{get_or_past}
 use Rattle.rules.specs.Mail.{address_at}
-use Rattle.rules.proofs.Turns.{found-more, found_here, found-end}
+use Rattle.rules.proofs.Turns.{found-end}
 use Rattle.rules.proofs.mail.next_address.Goals as goal
-
-pub loop-at-preserved : goal.loop-at-preserved
-loop-at-preserved c =
-    let s = c.args.bytes.now in
-    sym (found-more (address_at s c.args.from) s c.loop-at.at c.loop-at-test.true (sym c.in_default.ensures)) ∙ c.loop-at.invariant
-
-pub returns-in-Some : goal.returns-in-Some
-returns-in-Some c =
-    let s = c.args.bytes.now in
-    sym (found_here (address_at s c.args.from) s c.loop-at.at c.in-Some.span c.loop-at-test.true (sym c.in-Some.ensures)) ∙ c.loop-at.invariant
 
 pub returns-after-loop-at : goal.returns-after-loop-at
 returns-after-loop-at c =
