@@ -4,13 +4,14 @@ use Rattle.std.proofs.Common.{◌≡◌, ℕ, suc, ◌+◌, ◌<◌, ◌≤◌, 
 use Rattle.std.proofs.lemmas.Bool.{lt-ltb, le-ltb, or_from, or_left, or_right, both_ways, cond-true, cond-false, and_parts, eqb-true}
 use Rattle.text.specs.declared.refusals.Fault.{Fault}
 use Rattle.text.specs.declared.refusals.Fault.TheVariants.{EditOutOfRange, NoRoomForEdit}
+use Rattle.edit_map.specs.declared.entries.Addition.{Addition}
 use Rattle.edit_map.specs.declared.entries.Entry.{Entry}
 use Rattle.edit_map.specs.declared.entries.Side.{Side}
 use Rattle.edit_map.specs.declared.map.EditMap.{EditMap}
 use Rattle.edit_map.specs.Edits.{Edit, put, idle, count_at, add_answer}
 use Rattle.edit_map.specs.Entries.{edits, well_formed}
 use Rattle.edit_map.specs.Laws.{Rising}
-use Rattle.edit_map.specs.View.{entries_of, kept_count, edits_of, Added, PutIn}
+use Rattle.edit_map.specs.View.{entries_of, kept_count, edits_of, Adds, PutIn}
 use Rattle.edit_map.proofs.Ranks.{wf_parts}
 use Rattle.edit_map.proofs.Adds.{Grown}
 use Rattle.edit_map.proofs.OrderFree.{order_free}
@@ -49,47 +50,47 @@ rising-from low (e ∷ es) s h = let w = wf_parts low e es h in (w.0, rising-fro
 rising : {A : Type 0} (m : EditMap) (s : List A) → Rising 0 (edits_of m s)
 rising m s = rising-from 0 (entries_of m) s m.ordered
 
-module _ {A : Type 0} (side : Side) (p n : ℕ) (xs : List A) (m : EditMap) (s : List A) where
+module _ {A : Type 0} (a : Addition A) (m : EditMap) (s : List A) where
   -- a refusal leaves all as it was
-  turned_away : (f : Fault) → add_answer side (length s) (kept_count m) (edits_of m s) p n xs ≡ Err f → Added side p n xs m m s s (Err f)
-  turned_away f e = record { answer = sym e; edits = refl; kept = refl; rising = rising m s; rest = refl; refused = (refl, refl); no_effect = λ _. (refl, refl); order_free = order_free side p n xs (edits_of m s) }
+  turned_away : (f : Fault) → add_answer a.side (length s) (kept_count m) (edits_of m s) a.place a.count a.elements.now ≡ Err f → Adds a m m s s (Err f)
+  turned_away f e = record { answer = sym e; edits = refl; kept = refl; rising = rising m s; rest = refl; refused = (refl, refl); no_effect = λ _. (refl, refl); order_free = order_free a.side a.place a.count a.elements.now (edits_of m s) }
 
-  pub far : (4096 < p) ⊎ (4096 < count_at p (edits_of m s) + n) → Added side p n xs m m s s (Err (EditOutOfRange 0))
-  far why = turned_away (EditOutOfRange 0) (refused_13 side (length s) (kept_count m) (edits_of m s) p n xs why)
+  pub far : (4096 < a.place) ⊎ (4096 < count_at a.place (edits_of m s) + a.count) → Adds a m m s s (Err (EditOutOfRange 0))
+  far why = turned_away (EditOutOfRange 0) (refused_13 a.side (length s) (kept_count m) (edits_of m s) a.place a.count a.elements.now why)
 
-  module _ (low : p ≤ 4096) (small : count_at p (edits_of m s) + n ≤ 4096) where
-    pub nothing : idle n xs ≡ true → Added side p n xs m m s s (Ok tt)
+  module _ (low : a.place ≤ 4096) (small : count_at a.place (edits_of m s) + a.count ≤ 4096) where
+    pub nothing : idle a.count a.elements.now ≡ true → Adds a m m s s (Ok tt)
     nothing t =
-        let none = eqb-true (length xs) 0 (and_parts (eqb n 0) (eqb (length xs) 0) t).1 in
+        let none = eqb-true (length a.elements.now) 0 (and_parts (eqb a.count 0) (eqb (length a.elements.now) 0) t).1 in
         record {
-          answer = sym (idle-answer side (length s) (kept_count m) (edits_of m s) p n xs low small t);
-          edits = sym (cond-true (idle n xs) _ _ t);
+          answer = sym (idle-answer a.side (length s) (kept_count m) (edits_of m s) a.place a.count a.elements.now low small t);
+          edits = sym (cond-true (idle a.count a.elements.now) _ _ t);
           kept = omega arith;
           rising = rising m s;
           rest = refl;
           refused = tt;
           no_effect = λ _. (refl, refl);
-          order_free = order_free side p n xs (edits_of m s);
+          order_free = order_free a.side a.place a.count a.elements.now (edits_of m s);
         }
 
-    pub no_room : idle n xs ≡ false → (1024 < length (put side p n xs (edits_of m s))) ⊎ (length s < kept_count m + length xs) → Added side p n xs m m s s (Err NoRoomForEdit)
-    no_room f why = turned_away NoRoomForEdit (refused_15 side (length s) (kept_count m) (edits_of m s) p n xs low small f why)
+    pub no_room : idle a.count a.elements.now ≡ false → (1024 < length (put a.side a.place a.count a.elements.now (edits_of m s))) ⊎ (length s < kept_count m + length a.elements.now) → Adds a m m s s (Err NoRoomForEdit)
+    no_room f why = turned_away NoRoomForEdit (refused_15 a.side (length s) (kept_count m) (edits_of m s) a.place a.count a.elements.now low small f why)
 
-    pub done : (m' : EditMap) (s' : List A) → idle n xs ≡ false → length (put side p n xs (edits_of m s)) ≤ 1024 → kept_count m + length xs ≤ length s → PutIn side p n xs m m' s s' → Added side p n xs m m' s s' (Ok tt)
+    pub done : (m' : EditMap) (s' : List A) → idle a.count a.elements.now ≡ false → length (put a.side a.place a.count a.elements.now (edits_of m s)) ≤ 1024 → kept_count m + length a.elements.now ≤ length s → PutIn a m m' s s' → Adds a m m' s s' (Ok tt)
     done m' s' f few fits w = record {
-      answer = sym (accepted side (length s) (kept_count m) (edits_of m s) p n xs low small f few fits);
-      edits = w.edits ∙ sym (cond-false (idle n xs) _ _ f);
+      answer = sym (accepted a.side (length s) (kept_count m) (edits_of m s) a.place a.count a.elements.now low small f few fits);
+      edits = w.edits ∙ sym (cond-false (idle a.count a.elements.now) _ _ f);
       kept = w.kept;
       rising = rising m' s';
       rest = subst (λ (k : ℕ). drop k s' ≡ drop k s) (sym w.kept) w.rest;
       refused = tt;
-      no_effect = λ t. absurd (both_ways (idle n xs) f t);
-      order_free = order_free side p n xs (edits_of m s);
+      no_effect = λ t. absurd (both_ways (idle a.count a.elements.now) f t);
+      order_free = order_free a.side a.place a.count a.elements.now (edits_of m s);
     }
 
-  pub put_in : (m' : EditMap) (s' : List A) → Grown side p n xs (entries_of m) (entries_of m') s s' m.kept → PutIn side p n xs m m' s s'
+  pub put_in : (m' : EditMap) (s' : List A) → Grown a.side a.place a.count a.elements.now (entries_of m) (entries_of m') s s' m.kept → PutIn a m m' s s'
   put_in m' s' g = record {
     edits = g.edits;
-    kept = g.tally ∙ ap (λ k. k + length xs) m.tally;
-    rest = subst (λ (k : ℕ). drop (k + length xs) s' ≡ drop (k + length xs) s) m.tally g.rest;
+    kept = g.tally ∙ ap (λ k. k + length a.elements.now) m.tally;
+    rest = subst (λ (k : ℕ). drop (k + length a.elements.now) s' ≡ drop (k + length a.elements.now) s) m.tally g.rest;
   }

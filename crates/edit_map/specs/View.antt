@@ -2,6 +2,7 @@
 -- Assumes nothing.
 use Rattle.std.specs.Prelude.{◌≡◌, ℕ, ◌+◌, true, List, [], length, drop, IfErr, vec_items, Result}
 use Rattle.text.specs.declared.refusals.Fault.{Fault}
+use Rattle.edit_map.specs.declared.entries.Addition.{Addition}
 use Rattle.edit_map.specs.declared.entries.Entry.{Entry}
 use Rattle.edit_map.specs.declared.entries.Side.{Side}
 use Rattle.edit_map.specs.declared.map.EditMap.{EditMap}
@@ -35,8 +36,12 @@ pub record Added {A : Type 0} (side : Side) (place count : ℕ) (xs : List A) (m
   pub no_effect : idle count xs ≡ true → (m' ≡ m) × (store' ≡ store)
   pub order_free : IsOrderFree side place count xs (edits_of m store)
 
--- what putting an edit in does, where nothing stands in its way
-pub record PutIn {A : Type 0} (side : Side) (place count : ℕ) (xs : List A) (m m' : EditMap) (store store' : List A) : Type 0 where
-  pub edits : edits_of m' store' ≡ put side place count xs (edits_of m store)
-  pub kept : kept_count m' ≡ kept_count m + length xs
-  pub rest : drop (kept_count m + length xs) store' ≡ drop (kept_count m + length xs) store
+-- the same, of an addition
+abbrev pub Adds : {A : Type 0} → Addition A → EditMap → EditMap → List A → List A → Result (Unit {0}) Fault → Type 0
+Adds a m m' store store' r = Added a.side a.place a.count a.elements.now m m' store store' r
+
+-- what an addition does where nothing stands in its way
+pub record PutIn {A : Type 0} (a : Addition A) (m m' : EditMap) (store store' : List A) : Type 0 where
+  pub edits : edits_of m' store' ≡ put a.side a.place a.count a.elements.now (edits_of m store)
+  pub kept : kept_count m' ≡ kept_count m + length a.elements.now
+  pub rest : drop (kept_count m + length a.elements.now) store' ≡ drop (kept_count m + length a.elements.now) store

@@ -3,7 +3,7 @@ ghost use Rattle.std.specs.Prelude.{◌≡◌, ◌+◌, ◌<◌, ◌≤◌, true
 ghost use Rattle.edit_map.specs.Edits.{added, added_before, count_at, idle, add_answer, after};
 ghost use Rattle.edit_map.specs.Entries.{At, NoneAt};
 ghost use Rattle.edit_map.specs.Laws.{IsOrderFree, Rising};
-ghost use Rattle.edit_map.specs.View.{entries_of, kept_count, edits_of, Added, PutIn};
+ghost use Rattle.edit_map.specs.View.{entries_of, kept_count, edits_of, Adds, PutIn};
 
 use super::search::total_size;
 use super::store::splice;
@@ -74,7 +74,7 @@ impl EditMap {
     }
 
     fn put<T: Copy>(&mut self, store: &mut [T], addition: &Addition<T>) -> Result<(), Fault>
-        ensures { Added addition.now.side addition.now.place addition.now.count addition.now.elements.now self.old self.new store.old store.new result }
+        ensures { Adds addition.now self.old self.new store.old store.new result }
     {
         if addition.place > HIGHEST {
             return Err(Fault::EditOutOfRange(0));
@@ -94,7 +94,7 @@ impl EditMap {
     ) -> Result<(), Fault>
         requires at { At addition.now.place (entries_of self.old) rank }
         requires low { addition.now.place ≤ 4096 }
-        ensures { Added addition.now.side addition.now.place addition.now.count addition.now.elements.now self.old self.new store.old store.new result }
+        ensures { Adds addition.now self.old self.new store.old store.new result }
     {
         if addition.count > HIGHEST - self.entries[rank].count {
             return Err(Fault::EditOutOfRange(0));
@@ -118,7 +118,7 @@ impl EditMap {
     ) -> Result<(), Fault>
         requires none { NoneAt addition.now.place (entries_of self.old) rank }
         requires low { addition.now.place ≤ 4096 }
-        ensures { Added addition.now.side addition.now.place addition.now.count addition.now.elements.now self.old self.new store.old store.new result }
+        ensures { Adds addition.now self.old self.new store.old store.new result }
     {
         if addition.count > HIGHEST {
             return Err(Fault::EditOutOfRange(0));
@@ -147,7 +147,7 @@ impl EditMap {
         requires at { At addition.now.place (entries_of self.old) rank }
         requires room { kept_count self.old + length addition.now.elements.now ≤ length store.old }
         requires small { count_at addition.now.place (edits_of self.old store.old) + addition.now.count ≤ 4096 }
-        ensures { PutIn addition.now.side addition.now.place addition.now.count addition.now.elements.now self.old self.new store.old store.new }
+        ensures { PutIn addition.now self.old self.new store.old store.new }
     {
         let old = self.entries[rank];
         let start = total_size(&self.entries[..rank]) + addition.side.offset(old.size);
@@ -166,7 +166,7 @@ impl EditMap {
         requires place_left { vec_len self.old.entries < 1024 }
         requires room { kept_count self.old + length addition.now.elements.now ≤ length store.old }
         requires small { (addition.now.place ≤ 4096) × (addition.now.count ≤ 4096) }
-        ensures { PutIn addition.now.side addition.now.place addition.now.count addition.now.elements.now self.old self.new store.old store.new }
+        ensures { PutIn addition.now self.old self.new store.old store.new }
     {
         let start = total_size(&self.entries[..rank]);
         splice(store, self.kept, start, addition.elements);

@@ -53,5 +53,5 @@ returns g c =
     let start = rw c.deref.ensures.value at c.total_size-start.ensures in
     let grown = grown_new a.side a.count a.elements.now (vec_items m.entries) c.args.rank c.args.store.now c.splice.new.store m.kept c.total_size-start.result m.ordered m.tally (omega (arith, m.tally)) a.place c.requires.none c.requires.small.0 c.requires.small.1 start c.splice.ensures in
     let in_place = chosen _ _ _ _ c.insert.ensures.items (c.insert.ensures.succeeds (omega (arith, m.reserved))) in
-    put_in a.side a.place a.count a.elements.now m c.args.store.now _ c.splice.new.store
+    put_in a m c.args.store.now _ c.splice.new.store
     (record { edits = ap (λ l. edits l c.splice.new.store) in_place ∙ grown.edits; rest = grown.rest; ordered = ap (well_formed 0) in_place ∙ grown.ordered; tally = ap total in_place ∙ grown.tally })

@@ -5,4 +5,4 @@ use Rattle.edit_map.proofs.map.EditMap.put.Goals as goal
 pub returns-then-addition-gt-HIGHEST : goal.returns-then-addition-gt-HIGHEST
 returns-then-addition-gt-HIGHEST g c =
     let a = c.args.addition.now in
-    far a.side a.place a.count a.elements.now c.args.self.now c.args.store.now (inl c.if-addition-gt-HIGHEST.true)
+    far a c.args.self.now c.args.store.now (inl c.if-addition-gt-HIGHEST.true)

@@ -15,21 +15,21 @@ returns-then-addition-index g c =
     let m = c.args.self.now in
     let a = c.args.addition.now in
     let count = count_old a.place (vec_items m.entries) c.args.rank c.args.store.now c.requires.at m.ordered c.index.result.now c.index.ensures in
-    far a.side a.place a.count a.elements.now m c.args.store.now (inr (omega (arith, c.if-addition-index.true)))
+    far a m c.args.store.now (inr (omega (arith, c.if-addition-index.true)))
 
 pub returns-then-is_idle : goal.returns-then-is_idle
 returns-then-is_idle g c =
     let m = c.args.self.now in
     let a = c.args.addition.now in
     let count = count_old a.place (vec_items m.entries) c.args.rank c.args.store.now c.requires.at m.ordered c.index.result.now c.index.ensures in
-    nothing a.side a.place a.count a.elements.now m c.args.store.now c.requires.low (omega (arith, c.if-addition-index.false)) (sym c.if-is_idle.ensures)
+    nothing a m c.args.store.now c.requires.low (omega (arith, c.if-addition-index.false)) (sym c.if-is_idle.ensures)
 
 pub returns-then-not-has_room : goal.returns-then-not-has_room
 returns-then-not-has_room g c =
     let m = c.args.self.now in
     let a = c.args.addition.now in
     let count = count_old a.place (vec_items m.entries) c.args.rank c.args.store.now c.requires.at m.ordered c.index.result.now c.index.ensures in
-    no_room a.side a.place a.count a.elements.now m c.args.store.now c.requires.low (omega (arith, c.if-addition-index.false)) (sym c.if-is_idle.ensures)
+    no_room a m c.args.store.now c.requires.low (omega (arith, c.if-addition-index.false)) (sym c.if-is_idle.ensures)
     (inr (leb-false (kept_count m + length a.elements.now) (length c.args.store.now) (sym c.if-not-has_room.ensures)))
 
 pub widen-requires : goal.widen-requires
@@ -50,4 +50,4 @@ returns g c =
     let count = count_old a.place (vec_items m.entries) c.args.rank c.args.store.now c.requires.at m.ordered c.index.result.now c.index.ensures in
     let same = places_old a.place (vec_items m.entries) c.args.rank c.args.store.now c.requires.at a.side a.count a.elements.now in
     let room = leb-true (kept_count m + length a.elements.now) (length c.args.store.now) (sym c.if-not-has_room.ensures) in
-    done a.side a.place a.count a.elements.now m c.args.store.now c.requires.low (omega (arith, c.if-addition-index.false)) _ _ (sym c.if-is_idle.ensures) (omega (arith, m.few, m.entries.ok.0)) room c.widen.ensures
+    done a m c.args.store.now c.requires.low (omega (arith, c.if-addition-index.false)) _ _ (sym c.if-is_idle.ensures) (omega (arith, m.few, m.entries.ok.0)) room c.widen.ensures

@@ -52,5 +52,5 @@ returns g c =
     let a = c.args.addition.now in
     let here = here_read (vec_items m.entries) c.args.rank c.index-old.result.now c.requires.at c.index-old.ensures in
     let start = rw c.deref.ensures.value at c.total_size.ensures in
-    put_in a.side a.place a.count a.elements.now m c.args.store.now _ c.splice.new.store
+    put_in a m c.args.store.now _ c.splice.new.store
     (grown_here a.side a.count a.elements.now (vec_items m.entries) c.args.rank c.args.store.now c.splice.new.store m.kept (c.total_size.result + c.offset.result) m.ordered m.tally (omega (arith, m.tally)) here c.requires.small (omega (arith, c.offset.ensures)) c.splice.ensures)
