@@ -8,7 +8,7 @@ ghost use Rattle.edit_map.specs.declared.entries.Side.TheVariants.{Front};
 ghost use Rattle.marked.specs.Marked.{letter_of, marked_copy, marked_answer, marked_written, Faithful};
 ghost use Rattle.marked.specs.Marks.{IsInTurn, with_marks, marks};
 
-use edit_map::EditMap;
+use edit_map::{EditMap, MOST_PLACES};
 use rules::notes::find_note_addresses;
 use text::lent::check_room;
 use text::notes::LONGEST_NOTE;
@@ -49,8 +49,8 @@ fn write_copy(
     spans: &[Span],
     out: &mut [u8],
 ) -> Result<usize, Fault>
-    requires short { length note.now ≤ 1024 }
-    requires few { length spans.now ≤ 204 }
+    requires short { length note.now ≤ LONGEST_NOTE }
+    requires few { length spans.now ≤ MOST_ADDRESSES }
     requires in_turn { IsInTurn 0 (length note.now) spans.now }
     requires room { length (marked_copy note.now spans.now) ≤ length out.old }
     ensures answer { result ≡ Ok (length (marked_copy note.now spans.now)) }
@@ -67,8 +67,8 @@ fn write_copy(
 // From the last span to the first: so each mark goes before all that are kept, and an end before a start at its place.
 fn put_marks(map: &mut EditMap, store: &mut [u8], spans: &[Span]) -> Result<(), Fault>
     requires as_new { AsNew map.old }
-    requires few { length spans.now ≤ 204 }
-    requires in_turn { IsInTurn 0 1024 spans.now }
+    requires few { length spans.now ≤ MOST_ADDRESSES }
+    requires in_turn { IsInTurn 0 LONGEST_NOTE spans.now }
     requires room { 3 * length spans.now ≤ length store.old }
     ensures answer { result ≡ Ok tt }
     ensures edits { edits_of map.new store.new ≡ marks spans.now }
@@ -82,9 +82,9 @@ fn put_marks(map: &mut EditMap, store: &mut [u8], spans: &[Span]) -> Result<(), 
 
 // The two marks of one span, behind which all kept edits lie.
 fn mark_span(map: &mut EditMap, store: &mut [u8], span: Span) -> Result<(), Fault>
-    requires forward { (span.from ≤ span.to) × (span.to ≤ 1024) }
-    requires order { InOrder span.to 1024 (edits_of map.old store.old) }
-    requires few { length (edits_of map.old store.old) + 2 ≤ 1024 }
+    requires forward { (span.from ≤ span.to) × (span.to ≤ LONGEST_NOTE) }
+    requires order { InOrder span.to LONGEST_NOTE (edits_of map.old store.old) }
+    requires few { length (edits_of map.old store.old) + 2 ≤ MOST_PLACES }
     requires room { kept_count map.old + 3 ≤ length store.old }
     ensures answer { result ≡ Ok tt }
     ensures edits { edits_of map.new store.new ≡ with_marks span (edits_of map.old store.old) }
@@ -96,10 +96,10 @@ fn mark_span(map: &mut EditMap, store: &mut [u8], span: Span) -> Result<(), Faul
 
 // One mark, behind which all kept edits lie: no such edit is refused.
 fn put_mark(map: &mut EditMap, store: &mut [u8], place: usize, mark: &[u8]) -> Result<(), Fault>
-    requires low { place ≤ 1024 }
+    requires low { place ≤ LONGEST_NOTE }
     requires some { 0 < length mark.now }
-    requires order { InOrder place 1024 (edits_of map.old store.old) }
-    requires few { length (edits_of map.old store.old) < 1024 }
+    requires order { InOrder place LONGEST_NOTE (edits_of map.old store.old) }
+    requires few { length (edits_of map.old store.old) < MOST_PLACES }
     requires room { kept_count map.old + length mark.now ≤ length store.old }
     ensures answer { result ≡ Ok tt }
     ensures edits { edits_of map.new store.new ≡ put Front place 0 mark.now (edits_of map.old store.old) }

@@ -93,7 +93,7 @@ impl EditMap {
         addition: &Addition<T>,
     ) -> Result<(), Fault>
         requires at { At addition.now.place (entries_of self.old) rank }
-        requires low { addition.now.place ≤ 4096 }
+        requires low { addition.now.place ≤ HIGHEST }
         ensures { Adds addition.now self.old self.new store.old store.new result }
     {
         if addition.count > HIGHEST - self.entries[rank].count {
@@ -117,7 +117,7 @@ impl EditMap {
         addition: &Addition<T>,
     ) -> Result<(), Fault>
         requires none { NoneAt addition.now.place (entries_of self.old) rank }
-        requires low { addition.now.place ≤ 4096 }
+        requires low { addition.now.place ≤ HIGHEST }
         ensures { Adds addition.now self.old self.new store.old store.new result }
     {
         if addition.count > HIGHEST {
@@ -146,7 +146,7 @@ impl EditMap {
     fn widen<T: Copy>(&mut self, store: &mut [T], rank: usize, addition: &Addition<T>)
         requires at { At addition.now.place (entries_of self.old) rank }
         requires room { kept_count self.old + length addition.now.elements.now ≤ length store.old }
-        requires small { count_at addition.now.place (edits_of self.old store.old) + addition.now.count ≤ 4096 }
+        requires small { count_at addition.now.place (edits_of self.old store.old) + addition.now.count ≤ HIGHEST }
         ensures { PutIn addition.now self.old self.new store.old store.new }
     {
         let old = self.entries[rank];
@@ -163,9 +163,9 @@ impl EditMap {
     // Keeps a new edit, which takes this rank.
     fn enter<T: Copy>(&mut self, store: &mut [T], rank: usize, addition: &Addition<T>)
         requires none { NoneAt addition.now.place (entries_of self.old) rank }
-        requires place_left { vec_len self.old.entries < 1024 }
+        requires place_left { vec_len self.old.entries < MOST_PLACES }
         requires room { kept_count self.old + length addition.now.elements.now ≤ length store.old }
-        requires small { (addition.now.place ≤ 4096) × (addition.now.count ≤ 4096) }
+        requires small { (addition.now.place ≤ HIGHEST) × (addition.now.count ≤ HIGHEST) }
         ensures { PutIn addition.now self.old self.new store.old store.new }
     {
         let start = total_size(&self.entries[..rank]);
