@@ -17,14 +17,9 @@ pub record Within (n : ℕ) (c : Cursor) : Type 0 where
   pub end : c.point.index ≤ n
   pub inside : at_end c.current ≡ false → c.point.index < n
 
--- one more event fits, and it would stand at a place of a note
-pub record TakesEvent (m : Machine) : Type 0 where
-  pub room : length m.events < EVENTS_ROOM
-  pub place : m.cursor.point.index ≤ LONGEST_NOTE
-
 -- one more span can be entered
-pub record TakesSpan (m : Machine) : Type 0 where
-  pub event : TakesEvent m
+pub record SpanFits (m : Machine) : Type 0 where
+  pub event : length m.events < EVENTS_ROOM
   pub name : length m.names < NAMES_ROOM
 
 pub record Callable (m : Machine) : Type 0 where

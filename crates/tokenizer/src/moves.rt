@@ -1,17 +1,17 @@
 // The moves that states are made of. Those that need room or numbers that fit ask for it: whoever calls a state has it, at every
 // call of every run, as a fact (`machine/specs/Invariant`).
-ghost use Rattle.std.specs.Prelude.{◌≡◌, ◌+◌, ◌<◌, ◌≤◌, false, length, vec_len};
-ghost use Rattle.machine.specs.Cursors.{crlf_at, moved, shown_at, before_cr, event};
+ghost use Rattle.std.specs.Prelude.{◌≡◌, ◌<◌, ◌≤◌, length, vec_len};
+ghost use Rattle.machine.specs.Cursors.{crlf_at, moved, event};
 ghost use Rattle.machine.specs.Moves.{with_state, consumed, next, sized, sized_b, saw, marked, started, entered, exited, captured, checked, attempted, kept_for};
 ghost use Rattle.machine.specs.States.{www_begun, protocol_begun};
-ghost use Rattle.tokenizer.specs.Bounds.{Within, TakesEvent, TakesSpan};
+ghost use Rattle.tokenizer.specs.Bounds.{SpanFits, Within};
 ghost use Rattle.tokenizer.specs.Stack.{stack};
 ghost use Rattle.tokenizer.specs.View.{machine};
 
 use crate::attempts::ATTEMPTS_ROOM;
+use crate::event_table::EVENTS_ROOM;
 use crate::tokenizer::Tokenizer;
 use machine::{Attempt, AttemptKind, Cursor, Event, EventKind, Name, Progress, State, StateName};
-use text::notes::LONGEST_NOTE;
 use text::{Point, SpanKind};
 
 // A tab fills up to a column of the form TAB_SIZE * k + 1.
@@ -19,6 +19,7 @@ const TAB_SIZE: usize = 4;
 
 impl Tokenizer {
     // ---- the state and the registers
+    // Kept: the definition has a move for each register, and so has the tokenizer.
 
     pub fn go(&mut self, state: State)
         ensures { machine self.new ≡ with_state state (machine self.old) }
@@ -123,16 +124,13 @@ impl Tokenizer {
 
     // Whether a CR stands at `index`, and an LF follows.
     pub fn is_cr_before_lf(&self, index: usize) -> bool
-        requires { index ≤ LONGEST_NOTE }
         ensures { result ≡ crlf_at self.now.note.items index }
     {
-        matches!(self.note.get(index), Some(b'\r'))
-            && matches!(self.note.get(index + 1), Some(b'\n'))
+        matches!(self.note.get(index..), Some([b'\r', b'\n', ..]))
     }
 
     // An event at the point; in front of a CR that was passed over.
     pub fn event_here(&self, kind: EventKind, name: Name) -> Event
-        requires { self.now.cursor.point.index ≤ LONGEST_NOTE }
         ensures { result ≡ event self.now.note.items kind name self.now.cursor.point }
     {
         let mut point = self.cursor.point;
@@ -143,7 +141,7 @@ impl Tokenizer {
     }
 
     pub fn enter(&mut self, name: Name)
-        requires { TakesSpan (machine self.old) }
+        requires { SpanFits (machine self.old) }
         ensures { machine self.new ≡ entered name (machine self.old) }
     {
         let event = self.event_here(EventKind::Enter, name);
@@ -152,7 +150,7 @@ impl Tokenizer {
     }
 
     pub fn exit(&mut self, name: Name)
-        requires { TakesEvent (machine self.old) }
+        requires { vec_len self.old.events.items < EVENTS_ROOM }
         ensures { machine self.new ≡ exited name (machine self.old) }
     {
         let event = self.event_here(EventKind::Exit, name);
@@ -172,6 +170,7 @@ impl Tokenizer {
         }
     }
 
+    // Kept: check and attempt are the Rust crate's; they share `put`, and differ in the kind and in what they capture.
     pub fn check(&mut self, ok: State, nok: State)
         requires { length (stack self.old.attempts) < ATTEMPTS_ROOM }
         ensures { machine self.new ≡ checked ok nok (machine self.old) }
@@ -214,7 +213,7 @@ impl Tokenizer {
 impl Tokenizer {
     // Enters a protocol; tries its name and slashes, then the rest.
     pub fn begin_protocol(&mut self)
-        requires span { TakesSpan (machine self.old) }
+        requires span { SpanFits (machine self.old) }
         requires attempts { length (stack self.old.attempts) ≤ 3 }
         ensures { machine self.new ≡ protocol_begun (machine self.old) }
     {
@@ -227,7 +226,7 @@ impl Tokenizer {
 
     // Enters a `www.` link; checks for `www.`, then tries the rest.
     pub fn begin_www(&mut self)
-        requires span { TakesSpan (machine self.old) }
+        requires span { SpanFits (machine self.old) }
         requires attempts { length (stack self.old.attempts) ≤ 3 }
         ensures { machine self.new ≡ www_begun (machine self.old) }
     {
@@ -238,7 +237,7 @@ impl Tokenizer {
 
     // Enters a span and moves past its first byte.
     pub fn enter_and_next(&mut self, name: Name, state: StateName)
-        requires span { TakesSpan (machine self.old) }
+        requires span { SpanFits (machine self.old) }
         requires within { Within (vec_len self.old.note) self.old.cursor }
         ensures { machine self.new ≡ next state (entered name (machine self.old)) }
     {

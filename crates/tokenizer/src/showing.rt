@@ -1,18 +1,15 @@
 // What is shown to a state, and which state is due.
-ghost use Rattle.std.specs.Prelude.{◌≡◌, ◌≤◌, length, vec_len};
+ghost use Rattle.std.specs.Prelude.{◌≡◌};
 ghost use Rattle.machine.specs.Cursors.{shown_at};
-ghost use Rattle.machine.specs.Moves.{settled};
 ghost use Rattle.machine.specs.Runs.{passed, prepared, due, shown};
 ghost use Rattle.tokenizer.specs.View.{machine};
 
 use crate::tokenizer::Tokenizer;
 use machine::{State, StateName, Until};
-use text::notes::LONGEST_NOTE;
 
 impl Tokenizer {
     // Passes over a CR before an LF, once the CR may be read.
     pub fn pass(&mut self, until: Until)
-        requires { self.old.cursor.point.index ≤ LONGEST_NOTE }
         ensures { machine self.new ≡ passed until (machine self.old) }
     {
         if let State::Next(_) = self.state {
@@ -25,7 +22,6 @@ impl Tokenizer {
 
     // Settles what has its answer, and passes over a CR.
     pub fn prepare(&mut self, until: Until)
-        requires { (settled (machine self.old)).cursor.point.index ≤ LONGEST_NOTE }
         ensures { machine self.new ≡ prepared until (machine self.old) }
     {
         self.settle();

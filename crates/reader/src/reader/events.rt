@@ -1,5 +1,5 @@
 // The events that a reader holds, readable at every moment.
-ghost use Rattle.std.specs.Prelude.{◌≡◌, ℕ, length};
+ghost use Rattle.std.specs.Prelude.{◌≡◌, length};
 ghost use Rattle.machine.specs.declared.events.Event.{Event};
 ghost use Rattle.reader.specs.View.{events_held, event_answer};
 

@@ -1,20 +1,8 @@
 use Rattle.std.proofs.Common.{◌+◌, ◌-◌, vec_items, sym, ◌∙◌, arith}
-use Rattle.machine.specs.Moves.{settled}
-use Rattle.machine.proofs.Held.{held-index}
 use Rattle.tokenizer.specs.View.{machine}
 use Rattle.runs.proofs.Bounded.{turn_callable, turn_sound}
 use Rattle.runs.proofs.Turns.{stops, turns}
 use Rattle.runs.proofs.run.Goals as goal
-
-pub prepare-requires : goal.prepare-requires
-prepare-requires g c =
-    let t = c.args.engine.now.tokenizer in
-    omega (arith, held-index {m = settled (machine c.loop-steps.engine.tokenizer)} c.loop-steps.invariant.sound, t.short, t.note.ok.0)
-
-pub prepare-requires-2 : goal.prepare-requires-2
-prepare-requires-2 g c =
-    let t = c.args.engine.now.tokenizer in
-    omega (arith, held-index {m = settled (machine c.loop-steps.engine.tokenizer)} c.loop-steps.invariant.sound, t.short, t.note.ok.0)
 
 pub returns-in_default-clause-ran : goal.returns-in_default-clause-ran
 returns-in_default-clause-ran g c =
