@@ -1,6 +1,6 @@
 -- The checks of each call: where one holds the call is refused, and the reader stays as it was.
 -- Assumes nothing.
-use Rattle.std.proofs.Common.{◌≡◌, Bool, true, false, cond, not, ◌||◌, eqb, ltb, leb, List, [], ◌∷◌, length, Ok, Err, Result, refl, ap}
+use Rattle.std.proofs.Common.{◌≡◌, Bool, true, false, cond, not, ◌||◌, eqb, ltb, leb, List, [], ◌∷◌, length, Some, None, Option, Ok, Err, Result, refl, ap}
 use Rattle.std.proofs.lemmas.Bool.{true≢false}
 use Rattle.text.specs.Notes.{too_long}
 use Rattle.text.specs.declared.refusals.Fault.{Fault}
@@ -9,8 +9,7 @@ use Rattle.machine.specs.declared.cursors.Until.TheVariants.{Mark, End}
 use Rattle.machine.specs.Runs.{run}
 use Rattle.calls.specs.declared.scripts.Call.{Call}
 use Rattle.calls.specs.declared.scripts.Call.TheVariants as call
-use Rattle.calls.specs.declared.scripts.Reply.{Reply}
-use Rattle.calls.specs.declared.scripts.Reply.TheVariants.{Accepted, Ran}
+use Rattle.machine.specs.declared.runs.Ran.{Ran}
 use Rattle.calls.specs.Calls.{Model, is_empty, is_loaded, is_over, checked, answer_of, loaded, pushed, ended, unread}
 use Rattle.calls.specs.Links.{beyond, markable}
 use Rattle.calls.specs.Moments.{accepted}
@@ -48,19 +47,19 @@ checks m call.Clear = []
 -- ---- a refused call changes nothing
 
 -- if the answer is a refusal, the reader is m
-abbrev Stays : {A : Type 0} → (A → Reply) → Model → Model × Result A Fault → Type 0
+abbrev Stays : {A : Type 0} → (A → Option Ran) → Model → Model × Result A Fault → Type 0
 Stays f m o = (refusal : Fault) → answer f o.1 ≡ Err refusal → o.0 ≡ m
 
-not_refused : (r : Reply) (refusal : Fault) → ◌≡◌ {A = Answer} (Ok r) (Err refusal) → ⊥
+not_refused : (r : Option Ran) (refusal : Fault) → ◌≡◌ {A = Answer} (Ok r) (Err refusal) → ⊥
 not_refused r refusal e = true≢false (ap accepted e)
 
-stays : {A : Type 0} (f : A → Reply) (m : Model) (cs : List (Bool × Fault)) (r : Model × A) → Stays f m (checked m cs r)
+stays : {A : Type 0} (f : A → Option Ran) (m : Model) (cs : List (Bool × Fault)) (r : Model × A) → Stays f m (checked m cs r)
 stays f m cs r = by_checks (Stays f m) m cs r (λ _ _ _. refl) (λ _ refusal e. absurd (not_refused (f r.1) refusal e))
 
 pub refusals_change_nothing : RefusalsChangeNothing
-refusals_change_nothing member m (call.Load s) = stays (λ _. Accepted) m (checks m (call.Load s)) (loaded s.now, tt)
-refusals_change_nothing member m (call.Push to allowance) = stays Ran m (checks m (call.Push to allowance)) (let o = run member (Mark to) allowance m.machine in (pushed to o m, answer_of o))
-refusals_change_nothing member m (call.End allowance) = stays Ran m (checks m (call.End allowance)) (let o = run member End allowance m.machine in (ended o m, answer_of o))
-refusals_change_nothing member m (call.Link first last) = stays (λ _. Accepted) m (checks m (call.Link first last)) (with_link (run_of first last) m, tt)
-refusals_change_nothing member m call.Resolve = stays (λ _. Accepted) m (checks m call.Resolve) (with_resolved m, tt)
-refusals_change_nothing member m call.Clear = λ refusal e. absurd (not_refused Accepted refusal e)
+refusals_change_nothing member m (call.Load s) = stays (λ _. None) m (checks m (call.Load s)) (loaded s.now, tt)
+refusals_change_nothing member m (call.Push to allowance) = stays Some m (checks m (call.Push to allowance)) (let o = run member (Mark to) allowance m.machine in (pushed to o m, answer_of o))
+refusals_change_nothing member m (call.End allowance) = stays Some m (checks m (call.End allowance)) (let o = run member End allowance m.machine in (ended o m, answer_of o))
+refusals_change_nothing member m (call.Link first last) = stays (λ _. None) m (checks m (call.Link first last)) (with_link (run_of first last) m, tt)
+refusals_change_nothing member m call.Resolve = stays (λ _. None) m (checks m call.Resolve) (with_resolved m, tt)
+refusals_change_nothing member m call.Clear = λ refusal e. absurd (not_refused None refusal e)

@@ -1,6 +1,6 @@
 -- What every list of calls leaves true of a reader, and so the claim; from what the machine finds.
 -- Assumes nothing.
-use Rattle.std.proofs.Common.{◌≡◌, ℕ, suc, ◌<◌, ◌≤◌, Bool, true, false, cond, not, List, [], ◌∷◌, ◌++◌, length, Ok, sym, refl, ap, ◌∙◌, subst, arith}
+use Rattle.std.proofs.Common.{◌≡◌, ℕ, suc, ◌<◌, ◌≤◌, Bool, true, false, cond, not, List, [], ◌∷◌, ◌++◌, length, Some, None, Ok, sym, refl, ap, ◌∙◌, subst, arith}
 use Rattle.std.proofs.lemmas.Bool.{and_parts, and_from, both_ways, not-false, leb-false, ltb-false, true≢false}
 use Rattle.std.proofs.lemmas.List.{length_push}
 use Rattle.machine.specs.declared.cursors.Until.TheVariants.{Mark, End}
@@ -15,7 +15,6 @@ use Rattle.calls.specs.declared.phases.Phase.{Phase}
 use Rattle.calls.specs.declared.phases.Phase.TheVariants.{Empty, Loaded, Ending, Ended, Resolved}
 use Rattle.calls.specs.declared.scripts.Call.{Call}
 use Rattle.calls.specs.declared.scripts.Call.TheVariants as call
-use Rattle.calls.specs.declared.scripts.Reply.TheVariants.{Accepted, Ran}
 use Rattle.calls.specs.Calls.{Model, new, is_empty, is_loaded, is_over, answer_of, loaded, pushed, ended}
 use Rattle.calls.specs.Claims.{FullyRead, FullyResolved}
 use Rattle.calls.specs.EventLists.{LawfulEvents}
@@ -168,7 +167,7 @@ module _ (member : ℕ → Bool) (finds : FindsTheLinks) where
       }
 
   end_kept : (t : Told) (m : Model) (k : Machine) (steps allowance : ℕ) (d : Bool) → Kept t m → Reading t m → Reached member t.note k → (d ≡ true → joined k.events ≡ ended_events member t.note) →
-      Kept (telling t (call.End allowance) (Ok (Ran (record { steps = steps; done = d })))) (ended_as d k m)
+      Kept (telling t (call.End allowance) (Ok (Some (record { steps = steps; done = d })))) (ended_as d k m)
   end_kept t m k steps allowance true kept a r found =
       record {
         note = reached_note member r;
@@ -202,23 +201,23 @@ module _ (member : ℕ → Bool) (finds : FindsTheLinks) where
 
   step_kept : (t : Told) (m : Model) (c : Call) → Kept t m → Kept (telling t c (step member m c).1) (step member m c).0
   step_kept t m (call.Load s) k =
-      by_checks (λ o. Kept (telling t (call.Load s) (answer (λ _. Accepted) o.1)) o.0) m (checks m (call.Load s)) (loaded s.now, tt) (λ f. k)
+      by_checks (λ o. Kept (telling t (call.Load s) (answer (λ _. None) o.1)) o.0) m (checks m (call.Load s)) (loaded s.now, tt) (λ f. k)
       (λ c. load_kept t m s.now (ltb-false 1024 (length s.now) c.0) (empty_is m.phase c.1.0) k)
   step_kept t m (call.Push to allowance) k =
-      by_checks (λ o. Kept (telling t (call.Push to allowance) (answer Ran o.1)) o.0) m (checks m (call.Push to allowance)) (let o = run member (Mark to) allowance m.machine in (pushed to o m, answer_of o)) (λ f. k)
+      by_checks (λ o. Kept (telling t (call.Push to allowance) (answer Some o.1)) o.0) m (checks m (call.Push to allowance)) (let o = run member (Mark to) allowance m.machine in (pushed to o m, answer_of o)) (λ f. k)
       (λ c. push_kept t m to allowance (loaded-is m.phase c.1.0) k)
   step_kept t m (call.End allowance) k =
-      by_checks (λ o. Kept (telling t (call.End allowance) (answer Ran o.1)) o.0) m (checks m (call.End allowance)) (let o = run member End allowance m.machine in (ended o m, answer_of o)) (λ f. k)
+      by_checks (λ o. Kept (telling t (call.End allowance) (answer Some o.1)) o.0) m (checks m (call.End allowance)) (let o = run member End allowance m.machine in (ended o m, answer_of o)) (λ f. k)
       (λ c.
       let a = may_end m.phase t m c.0 c.1.0 k.at in
       let o = run member End allowance m.machine in
       end_kept t m o.after o.steps allowance o.done k a (reached_more member t.note End allowance m.machine a.reached)
       (reached_end member t.note (finds member t.note) allowance m.machine a.reached))
   step_kept t m (call.Link first last) k =
-      by_checks (λ o. Kept (telling t (call.Link first last) (answer (λ _. Accepted) o.1)) o.0) m (checks m (call.Link first last)) (with_link (run_of first last) m, tt) (λ f. k)
+      by_checks (λ o. Kept (telling t (call.Link first last) (answer (λ _. None) o.1)) o.0) m (checks m (call.Link first last)) (with_link (run_of first last) m, tt) (λ f. k)
       (λ c. link-kept t m (run_of first last) (ended_is m.phase c.1.0) (not-false (markable (held m) (beyond 0 m.links) (run_of first last)) c.1.1.0) (leb-false most_links (length m.links) c.1.1.1.0) k)
   step_kept t m call.Resolve k =
-      by_checks (λ o. Kept (telling t call.Resolve (answer (λ _. Accepted) o.1)) o.0) m (checks m call.Resolve) (with_resolved m, tt) (λ f. k)
+      by_checks (λ o. Kept (telling t call.Resolve (answer (λ _. None) o.1)) o.0) m (checks m call.Resolve) (with_resolved m, tt) (λ f. k)
       (λ c. resolve-kept t m (ended_is m.phase c.1.0) k)
   step_kept t m call.Clear k = new-kept
 

@@ -1,7 +1,7 @@
 -- Lists of calls with the house set, each with its answers, what they tell, and the events held at the end; and event lists that
 -- look right and are not what is claimed.
 -- Assumes nothing.
-use Rattle.std.specs.Prelude.{◌≡◌, ℕ, zero, suc, ◌+◌, true, false, List, [], ◌∷◌, ◌++◌, replicate, Ok, Err, codes}
+use Rattle.std.specs.Prelude.{◌≡◌, ℕ, zero, suc, ◌+◌, true, false, List, [], ◌∷◌, ◌++◌, replicate, Some, None, Ok, Err, codes}
 use Rattle.std.specs.List.{AllByRecursion}
 use Rattle.text.specs.declared.refusals.Fault.{Fault}
 use Rattle.text.specs.declared.refusals.Fault.TheVariants as fault
@@ -15,7 +15,6 @@ use Rattle.machine.specs.declared.events.Name.TheVariants.{Data, LineEnding, Lin
 use Rattle.calls.specs.declared.links.MarkedRun.{MarkedRun}
 use Rattle.calls.specs.declared.scripts.Call.{Call}
 use Rattle.calls.specs.declared.scripts.Call.TheVariants as call
-use Rattle.calls.specs.declared.scripts.Reply.TheVariants.{Accepted, Ran}
 use Rattle.calls.specs.Calls.{new}
 use Rattle.calls.specs.Claims.{FullyRead, FullyResolved}
 use Rattle.calls.specs.EventLists.{LawfulEvents}
@@ -48,16 +47,16 @@ abbrev clear : Call
 clear = call.Clear
 
 abbrev ok : Answer
-ok = Ok Accepted
+ok = Ok None
 
 abbrev no : Fault → Answer
 no refusal = Err refusal
 
 abbrev done : ℕ → Answer
-done steps = Ok (Ran (record { steps = steps; done = true }))
+done steps = Ok (Some (record { steps = steps; done = true }))
 
 abbrev paused : ℕ → Answer
-paused steps = Ok (Ran (record { steps = steps; done = false }))
+paused steps = Ok (Some (record { steps = steps; done = false }))
 
 -- ---- lists of calls
 

@@ -1,13 +1,12 @@
 -- A list of calls on a new reader, what the calls and their answers tell, and what holds at every moment.
 -- member is the meaning of the reader's punctuation set.
 -- Assumes nothing.
-use Rattle.std.specs.Prelude.{◌≡◌, ℕ, ◌+◌, ◌≤◌, Bool, true, false, cond, ◌||◌, List, [], ◌∷◌, ◌++◌, length, take, Ok, Err, slice_index_or}
+use Rattle.std.specs.Prelude.{◌≡◌, ℕ, ◌+◌, ◌≤◌, Bool, true, false, cond, ◌||◌, List, [], ◌∷◌, ◌++◌, length, take, Some, None, Option, Ok, Err, slice_index_or}
 use Rattle.machine.specs.declared.events.Event.{Event}
 use Rattle.calls.specs.declared.links.MarkedRun.{MarkedRun}
 use Rattle.calls.specs.declared.scripts.Call.{Call}
 use Rattle.calls.specs.declared.scripts.Call.TheVariants.{Load, Push, End, Link, Resolve, Clear}
-use Rattle.calls.specs.declared.scripts.Reply.{Reply}
-use Rattle.calls.specs.declared.scripts.Reply.TheVariants.{Accepted, Ran}
+use Rattle.machine.specs.declared.runs.Ran.{Ran}
 use Rattle.calls.specs.Calls.{Model, new}
 use Rattle.calls.specs.EventLists.{LawfulEvents}
 use Rattle.calls.specs.Claims.{FullyRead, FullyResolved}
@@ -28,9 +27,9 @@ abbrev pub accepted : Answer → Bool
 accepted (Ok reply) = true
 accepted (Err refusal) = false
 
-abbrev pub ran_to_its_end : Reply → Bool
-ran_to_its_end Accepted = false
-ran_to_its_end (Ran r) = r.done
+abbrev pub ran_to_its_end : Option Ran → Bool
+ran_to_its_end None = false
+ran_to_its_end (Some r) = r.done
 
 abbrev pub done : Answer → Bool
 done (Ok reply) = ran_to_its_end reply

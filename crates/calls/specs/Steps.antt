@@ -1,6 +1,6 @@
 -- What link, resolve and clear do to a reader and answer; and any call of a list of calls. A refused call changes nothing.
 -- Assumes nothing.
-use Rattle.std.specs.Prelude.{ℕ, Bool, true, false, not, List, [], ◌∷◌, ◌++◌, length, Ok, Err, Result, nat_le}
+use Rattle.std.specs.Prelude.{ℕ, Bool, true, false, not, List, [], ◌∷◌, ◌++◌, length, Some, None, Option, Ok, Err, Result, nat_le}
 use Rattle.text.specs.declared.refusals.Fault.{Fault}
 use Rattle.text.specs.declared.refusals.Fault.TheVariants as fault
 use Rattle.machine.specs.declared.events.Event.{Event}
@@ -10,8 +10,7 @@ use Rattle.calls.specs.declared.phases.Phase.{Phase}
 use Rattle.calls.specs.declared.phases.Phase.TheVariants.{Empty, Loaded, Ending, Ended, Resolved}
 use Rattle.calls.specs.declared.scripts.Call.{Call}
 use Rattle.calls.specs.declared.scripts.Call.TheVariants as call
-use Rattle.calls.specs.declared.scripts.Reply.{Reply}
-use Rattle.calls.specs.declared.scripts.Reply.TheVariants.{Accepted, Ran}
+use Rattle.machine.specs.declared.runs.Ran.{Ran}
 use Rattle.calls.specs.Calls.{Model, new, is_empty, checked, load, push, end}
 use Rattle.calls.specs.Links.{beyond, markable, resolved}
 
@@ -72,21 +71,22 @@ clear m = new
 
 -- ---- any call
 
+-- an accepted push or end answers how it ran; the others answer no more than that they are accepted
 abbrev pub Answer : Type 0
-Answer = Result Reply Fault
+Answer = Result (Option Ran) Fault
 
-abbrev pub answer : {A : Type 0} → (A → Reply) → Result A Fault → Answer
+abbrev pub answer : {A : Type 0} → (A → Option Ran) → Result A Fault → Answer
 answer f (Ok a) = Ok (f a)
 answer f (Err refusal) = Err refusal
 
-abbrev pub answering : {A : Type 0} → (A → Reply) → Model × Result A Fault → Model × Answer
+abbrev pub answering : {A : Type 0} → (A → Option Ran) → Model × Result A Fault → Model × Answer
 answering f r = (r.0, answer f r.1)
 
 -- member is the meaning of the punctuation set
 abbrev pub step : (ℕ → Bool) → Model → Call → Model × Answer
-step member m (call.Load note) = answering (λ _. Accepted) (load m note.now)
-step member m (call.Push to allowance) = answering Ran (push member m to allowance)
-step member m (call.End allowance) = answering Ran (end member m allowance)
-step member m (call.Link first last) = answering (λ _. Accepted) (link m first last)
-step member m call.Resolve = answering (λ _. Accepted) (resolve m)
-step member m call.Clear = (clear m, Ok Accepted)
+step member m (call.Load note) = answering (λ _. None) (load m note.now)
+step member m (call.Push to allowance) = answering Some (push member m to allowance)
+step member m (call.End allowance) = answering Some (end member m allowance)
+step member m (call.Link first last) = answering (λ _. None) (link m first last)
+step member m call.Resolve = answering (λ _. None) (resolve m)
+step member m call.Clear = (clear m, Ok None)

@@ -12,8 +12,4 @@ pub enum Call<'a> {
 }
 
 // What an accepted call answers: a push and an end, how they ran; the others, no more than that they are accepted.
-#[derive(Clone, Copy, PartialEq, Eq, Debug)]
-pub enum Reply {
-    Accepted,
-    Ran(Ran),
-}
+pub type Reply = Option<Ran>;
