@@ -21,10 +21,12 @@ impl From<AllocError> for Failure {
 }
 
 // 2^63, the refusal's number times 2^32, and its place as far as it fits. Number 0: no memory.
-pub fn code_of(failure: Failure) -> u64 {
-    let (number, place) = match failure {
-        Failure::Refused(fault) => (fault.number(), fault.place()),
-        Failure::NoMemory => (0, 0),
-    };
-    (1 << 63) | (u64::from(number) << 32) | (place as u64).min(u32::MAX as u64)
+impl From<Failure> for u64 {
+    fn from(failure: Failure) -> u64 {
+        let (number, place) = match failure {
+            Failure::Refused(fault) => (fault.number(), fault.place()),
+            Failure::NoMemory => (0, 0),
+        };
+        (1 << 63) | (u64::from(number) << 32) | (place as u64).min(u64::from(u32::MAX))
+    }
 }

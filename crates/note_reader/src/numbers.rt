@@ -2,6 +2,7 @@
 use machine::{Event, EventKind, Name};
 use text::{Fault, SpanKind};
 
+// Kept: the slice is lent over the C interface, which wants to know how much of it was used.
 #[derive(Drop)]
 pub struct Numbers<'a> {
     pub out: &'a mut [u64],
@@ -10,26 +11,28 @@ pub struct Numbers<'a> {
 
 impl Numbers<'_> {
     pub fn put(&mut self, number: u64) -> Result<(), Fault> {
-        let at = self.used;
-        if at >= self.out.len() {
-            return Err(Fault::BufferTooShort(self.out.len()));
-        }
-        self.out[at] = number;
-        self.used = at + 1;
+        let room = self.out.len();
+        let slot = self
+            .out
+            .get_mut(self.used)
+            .ok_or(Fault::BufferTooShort(room))?;
+        *slot = number;
+        self.used += 1;
         Ok(())
     }
 
     pub fn put_event(&mut self, event: Event) -> Result<(), Fault> {
+        let point = event.point;
         self.put(kind_code(event.kind))?;
         self.put(name_code(event.name))?;
-        self.put(event.point.line as u64)?;
-        self.put(event.point.column as u64)?;
-        self.put(event.point.index as u64)?;
-        self.put(event.point.vs as u64)?;
-        Ok(())
+        self.put(point.line as u64)?;
+        self.put(point.column as u64)?;
+        self.put(point.index as u64)?;
+        self.put(point.vs as u64)
     }
 }
 
+// Kept: these numbers and those of names are the C interface's.
 fn kind_code(kind: EventKind) -> u64 {
     match kind {
         EventKind::Enter => 0,

@@ -8,22 +8,28 @@ use reader::Reader;
 use std::alloc::Global;
 use text::Fault;
 
-// Steps of the push and the end, and how many events there are then.
-pub fn read_all(heap: Global, note: &[u8]) -> Result<(u64, usize), Failure> {
+// What came of a note: the steps of the push and the end, and how many events there are then.
+#[derive(Clone, Copy)]
+#[repr(C)]
+pub struct Reading {
+    pub steps: u64,
+    pub events: u64,
+}
+
+pub fn read_all(heap: Global, note: &[u8]) -> Result<Reading, Failure> {
     let mut reader = Reader::new(heap, house_set())?;
     reader.load(note)?;
     let pushed = reader.push(note.len(), u64::MAX)?;
     let ended = reader.end(u64::MAX)?;
-    Ok((
-        pushed.steps.saturating_add(ended.steps),
-        reader.event_count(),
-    ))
+    Ok(Reading {
+        steps: pushed.steps.saturating_add(ended.steps),
+        events: reader.event_count() as u64,
+    })
 }
 
 fn put_ran(out: &mut Numbers<'_>, ran: Ran) -> Result<(), Fault> {
     out.put(ran.steps)?;
-    out.put(u64::from(ran.done))?;
-    Ok(())
+    out.put(u64::from(ran.done))
 }
 
 fn push_all(
@@ -31,8 +37,9 @@ fn push_all(
     pushes: &[u64],
     out: &mut Numbers<'_>,
 ) -> Result<(), Fault> {
-    for pair in 0..pushes.len() / 2 {
-        let ran = reader.push(pushes[2 * pair] as usize, pushes[2 * pair + 1])?;
+    let (pairs, _) = pushes.as_chunks::<2>();
+    for [to, allowance] in pairs {
+        let ran = reader.push(*to as usize, *allowance)?;
         put_ran(out, ran)?;
     }
     Ok(())
@@ -64,7 +71,8 @@ pub fn read_in_parts(
     Ok(numbers.used)
 }
 
-fn kind_code(kind: CharacterKind) -> u8 {
+// Kept: these numbers are the C interface's.
+fn character_code(kind: CharacterKind) -> u8 {
     match kind {
         CharacterKind::Whitespace => 0,
         CharacterKind::Punctuation => 1,
@@ -79,8 +87,8 @@ pub fn put_kinds(note: &[u8], ranges: &[u32], out: &mut [u8]) -> Result<usize, F
     }
     let mut set = RangeList::new(ranges);
     let places = note.len() + 1;
-    for index in 0..places {
-        out[index] = kind_code(kind_after_index(note, index, &mut set));
+    for (index, code) in out[..places].iter_mut().enumerate() {
+        *code = character_code(kind_after_index(note, index, &mut set));
     }
     Ok(places)
 }
