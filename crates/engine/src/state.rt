@@ -79,6 +79,7 @@ impl<S: PunctuationSet> Engine<S> {
     }
 
     // Calls a state: what it does is decided by its name and the byte shown.
+    // Kept: one match on state and shown byte together is the form of the dispatcher.
     pub fn call(&mut self, name: StateName)
         requires { Callable (machine self.old.tokenizer) }
         ensures called { machine self.new.tokenizer ≡ call (S.member self.old.set) name (machine self.old.tokenizer) }

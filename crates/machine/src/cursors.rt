@@ -56,6 +56,7 @@ impl Registers {
 }
 
 // How far a run reads: the bytes before a mark, or all bytes and the end.
+// Kept: an Option of the mark would name neither case, and could not have the two methods.
 #[derive(Clone, Copy)]
 pub enum Until {
     Mark(usize),

@@ -10,9 +10,10 @@ ghost use Rattle.tokenizer.specs.Joining.{paired, joined_from, with_event};
 use crate::table::Table;
 use machine::Event;
 use machine::joins::is_seam;
+use text::notes::LONGEST_NOTE;
 
 // Two events for each byte of a note, and two for each of 64 links.
-pub const EVENTS_ROOM: usize = 2176;
+pub const EVENTS_ROOM: usize = 2 * LONGEST_NOTE + 2 * 64;
 
 pub type EventTable = Table<Event, EVENTS_ROOM>;
 

@@ -126,7 +126,8 @@ impl Tokenizer {
     pub fn is_cr_before_lf(&self, index: usize) -> bool
         ensures { result ≡ crlf_at self.now.note.items index }
     {
-        matches!(self.note.get(index..), Some([b'\r', b'\n', ..]))
+        matches!(self.note.get(index), Some(b'\r'))
+            && matches!(self.note.get(index + 1), Some(b'\n'))
     }
 
     // An event at the point; in front of a CR that was passed over.

@@ -20,7 +20,8 @@ impl Tokenizer {
         }
     }
 
-    // Settles what has its answer, and passes over a CR.
+    // Settles what has its answer, and passes over a CR. A run has two calls of it, one of them in its loop: hence the hint.
+    #[inline(always)]
     pub fn prepare(&mut self, until: Until)
         ensures { machine self.new ≡ prepared until (machine self.old) }
     {
