@@ -17,10 +17,7 @@ const TEXTS: [(&str, &str); 3] = [
         "Latin",
         "Für Händler: Größe, Maß und Gerät prüfen — señal débil, câble coupé, pièce usée.\n",
     ),
-    (
-        "CJK",
-        "時計のチップを交換してください。詳しくは倉庫に連絡。电池组的购买日期丢失。\n",
-    ),
+    ("CJK", "時計のチップを交換してください。詳しくは倉庫に連絡。电池组的购买日期丢失。\n"),
 ];
 
 // How often each text is read from each of its bytes on where the time is taken.
