@@ -12,6 +12,7 @@ pub fn make_copy(heap: Global, note: &[u8]) -> Result<Vec<u8>, AllocError>
     ensures { IfOk result (λ v. v.items ≡ copy note.now) }
 {
     let mut map = EditMap::new(heap)?;
+    // Kept: an array, since the copy is written into what is lent, and a Vec would have to be filled before it is written.
     let mut out = [0u8; LONGEST_COPY];
     match mark_addresses(&mut map, note, &mut out) {
         Ok(count) => Vec::from_slice(heap, &out[..count]),

@@ -108,6 +108,7 @@ fn put_mark(map: &mut EditMap, store: &mut [u8], place: usize, mark: &[u8]) -> R
     map.add_before(store, place, 0, mark)
 }
 
+// Kept: the letter is what the marked copy writes.
 fn letter_of(kind: SpanKind) -> u8
     ensures { result ≡ letter_of kind }
 {
