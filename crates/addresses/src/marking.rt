@@ -12,7 +12,7 @@ pub fn make_copy(heap: Global, note: &[u8]) -> Result<Vec<u8>, AllocError>
     ensures { IfOk result (λ v. v.items ≡ copy note.now) }
 {
     let mut map = EditMap::new(heap)?;
-    // Kept: an array, since the copy is written into what is lent, and a Vec would have to be filled before it is written.
+    // Kept: an array to lend; a Vec of as many would add an allocation that may fail, and is no plainer.
     let mut out = [0u8; LONGEST_COPY];
     match mark_addresses(&mut map, note, &mut out) {
         Ok(count) => Vec::from_slice(heap, &out[..count]),

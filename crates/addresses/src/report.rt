@@ -13,7 +13,7 @@ pub fn make_report(heap: Global, note: &[u8]) -> Result<Vec<u8>, AllocError>
     ensures { IfOk result (λ v. v.items ≡ report note.now) }
 {
     // No note has more addresses than bytes.
-    // Kept: an array, since the search writes into what it is lent, and a Vec would have to be filled before it is written.
+    // Kept: an array to lend; a Vec of as many would add an allocation that may fail, and is no plainer.
     let mut spans = [NO_SPAN; LONGEST_NOTE];
     match find_note_addresses(note, &mut spans) {
         Ok(count) => list_addresses(heap, note, &spans[..count]),

@@ -233,3 +233,18 @@ module _ (member : ℕ → Bool) (finds : FindsTheLinks) where
       let t = told nothing cs (answers member new cs) in
       let k = after_kept cs nothing new new-kept in
       record { answered = refl; lawful = lawful-at m.phase t m k.at; fits = fits-at m.phase t m k.short k.few k.at; read = read_at m.phase t m k.at; resolved = resolved-at m.phase t m k.at }
+
+  -- ---- an end that is done
+
+  ended_holds : (t : Told) (m : Model) (allowance : ℕ) → Kept t m → is_empty m.phase ≡ false → is_over m.phase ≡ false → (run member End allowance m.machine).done ≡ true → joined (run member End allowance m.machine).after.events ≡ ended_events member m.machine.note
+  ended_holds t m allowance k some on done =
+      reached_end member t.note (finds member t.note) allowance m.machine (may_end m.phase t m some on k.at).reached done
+      ∙ ap (ended_events member) (sym k.note)
+
+  -- where m is a reader after these calls
+  module _ (m : Model) (calls : List Call) (is : m ≡ after member new calls) where
+    kept_then : Kept (told nothing calls (answers member new calls)) m
+    kept_then = subst (Kept (told nothing calls (answers member new calls))) (sym is) (after_kept calls nothing new new-kept)
+
+    pub end_leaves : (allowance : ℕ) → is_empty m.phase ≡ false → is_over m.phase ≡ false → (run member End allowance m.machine).done ≡ true → joined (run member End allowance m.machine).after.events ≡ ended_events member m.machine.note
+    end_leaves allowance some on done = ended_holds (told nothing calls (answers member new calls)) m allowance kept_then some on done

@@ -1,8 +1,9 @@
 -- What is proved of the definitions: they do what is claimed of them, nothing else does, and how much room it takes.
 -- Assumes nothing.
-use Rattle.std.specs.Prelude.{◌≡◌, ℕ, ◌+◌, ◌*◌, ◌≤◌, Bool, true, List, [], length, Err}
+use Rattle.std.specs.Prelude.{◌≡◌, ℕ, ◌+◌, ◌*◌, ◌≤◌, Bool, true, false, List, [], length, Ok, Err, Result}
 use Rattle.text.specs.declared.refusals.Fault.{Fault}
 use Rattle.machine.specs.declared.events.Event.{Event}
+use Rattle.machine.specs.declared.runs.Ran.{Ran}
 use Rattle.calls.specs.declared.links.MarkedRun.{MarkedRun}
 use Rattle.calls.specs.declared.scripts.Call.{Call}
 use Rattle.calls.specs.Calls.{Model, new}
@@ -10,7 +11,7 @@ use Rattle.calls.specs.Claims.{FullyRead, FullyResolved}
 use Rattle.calls.specs.EventLists.{is_link, is_mail_address, spans, with_name, LawfulEvents}
 use Rattle.calls.specs.Links.{marked_in_turn, ended_events, resolved_events}
 use Rattle.calls.specs.Moments.{after, answers, Replayed}
-use Rattle.calls.specs.Steps.{most_links, step}
+use Rattle.calls.specs.Steps.{held, most_links, step}
 
 -- ---- of event lists
 
@@ -55,9 +56,19 @@ TwoAByteAndALink =
 
 -- ---- of calls
 
+-- the answer is done
+abbrev pub ended_now : Result Ran Fault → Bool
+ended_now (Ok r) = r.done
+ended_now (Err refusal) = false
+
 -- a refused call changes nothing
 abbrev pub RefusalsChangeNothing : Type 0
 RefusalsChangeNothing = (member : ℕ → Bool) (m : Model) (c : Call) (refusal : Fault) → (step member m c).1 ≡ Err refusal → (step member m c).0 ≡ m
+
+-- an end that answers done leaves the events of the segments of the note, and no others: of a reader that was new, whatever calls
+-- have led to m since
+abbrev pub EndFinds : (ℕ → Bool) → Model → Model × Result Ran Fault → Type 0
+EndFinds member m r = (calls : List Call) → m ≡ after member new calls → ended_now r.1 ≡ true → held r.0 ≡ ended_events member m.machine.note
 
 -- every list of calls on a new reader
 abbrev pub ClaimHolds : Type 0

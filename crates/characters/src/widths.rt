@@ -5,7 +5,7 @@ ghost use Rattle.characters.specs.Widths.{replacement_width, character_width, En
 use crate::utf8::char_at;
 
 // The bytes of the character at `index`: one where the byte there begins none, and 0 at the end of the bytes and past it.
-// Kept: 0 and no Option at the end, since callers add it to a place.
+// Kept: 0 and no Option at the end, since that is what the call has promised; who goes on by it stays at the end.
 pub fn char_width(bytes: &[u8], index: usize) -> usize
     ensures answer { result ≡ character_width bytes.now index }
     ensures ends_within { EndsWithin bytes.now index result }

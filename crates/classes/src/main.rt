@@ -15,8 +15,8 @@ use punctuation::range_lists::house_set;
 use std::io;
 use std::io::Read;
 use tallies::Tally;
-use text::Point;
 use text::notes::{LONGEST_NOTE, check_length};
+use text::places::START;
 
 fn main(rt: HostRuntime) -> io::Result<()> {
     let note = read_note(&rt)?;
@@ -37,17 +37,12 @@ fn read_note(rt: &HostRuntime) -> io::Result<Vec<u8>> {
 }
 
 fn list_characters(rt: &HostRuntime, note: &[u8]) -> io::Result<Tally>
-    requires { length note.now ≤ 1024 }
+    requires { length note.now ≤ LONGEST_NOTE }
     ensures { IfOk result (λ tally. tally ≡ tally_of note.now) }
 {
     let mut set = house_set();
     let mut tally = Tally::new(note.len());
-    let mut point = Point {
-        line: 1,
-        column: 1,
-        index: 0,
-        vs: 0,
-    };
+    let mut point = START;
     for (index, c) in char_indices(note) {
         point = point.shift_to(note, index).unwrap();
         let kind = classify(c, &mut set);

@@ -20,7 +20,7 @@ fn main(rt: HostRuntime) -> io::Result<()> {
         Ok(tally) => {
             println!(rt; "{tally}")?;
             if rounds.is_some() {
-                let per_second = tally.elements as u128 * 1_000_000 / micros.max(1);
+                let per_second = u128::from(tally.elements) * 1_000_000 / micros.max(1);
                 println!(rt; "{micros} microseconds, {per_second} elements per second")?;
             }
             Ok(())

@@ -30,6 +30,7 @@ impl<S: PunctuationSet> Engine<S> {
         {
             return classify(char::from(*byte), &mut self.set);
         }
+        // Kept: no call of kind_after_index, tried: the check does not cover lending the note and the set of one engine at once.
         match char_at(self.tokenizer.note.as_slice(), index) {
             None => CharacterKind::Whitespace,
             Some(c) => classify(c, &mut self.set),

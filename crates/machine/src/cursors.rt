@@ -3,6 +3,7 @@ ghost use Rattle.std.specs.Prelude.{◌≡◌};
 ghost use Rattle.machine.specs.Runs.{at_start, cleared, limit, may_show};
 
 use text::Point;
+use text::places::START;
 
 // The point, the byte consumed last as it was shown, and the byte shown: none at the end.
 #[derive(Clone, Copy)]
@@ -18,12 +19,7 @@ impl Cursor {
         ensures { result ≡ at_start }
     {
         Cursor {
-            point: Point {
-                line: 1,
-                column: 1,
-                index: 0,
-                vs: 0,
-            },
+            point: START,
             previous: None,
             current: None,
         }

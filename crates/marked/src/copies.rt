@@ -63,16 +63,16 @@ fn write_copy(
     map.consume(&store, note, out)
 }
 
-// Kept: no struct of map and store: the proof of `write_copy` then lacks that the map lent to it is the one changed.
+// Kept: no struct of map and store, tried: the proof of `write_copy` then lacks that the map lent to it is the one changed.
 // From the last span to the first: so each mark goes before all that are kept, and an end before a start at its place.
 fn put_marks(map: &mut EditMap, store: &mut [u8], spans: &[Span]) -> Result<(), Fault>
     requires as_new { AsNew map.old }
     requires few { length spans.now ≤ MOST_ADDRESSES }
     requires in_turn { IsInTurn 0 LONGEST_NOTE spans.now }
-    requires room { 3 * length spans.now ≤ length store.old }
+    requires room { MARK_SIZE * length spans.now ≤ length store.old }
     ensures answer { result ≡ Ok tt }
     ensures edits { edits_of map.new store.new ≡ marks spans.now }
-    ensures kept { kept_count map.new ≡ 3 * length spans.now }
+    ensures kept { kept_count map.new ≡ MARK_SIZE * length spans.now }
 {
     for span in spans.iter().rev() {
         mark_span(map, store, *span)?;
@@ -85,10 +85,10 @@ fn mark_span(map: &mut EditMap, store: &mut [u8], span: Span) -> Result<(), Faul
     requires forward { (span.from ≤ span.to) × (span.to ≤ LONGEST_NOTE) }
     requires order { InOrder span.to LONGEST_NOTE (edits_of map.old store.old) }
     requires few { length (edits_of map.old store.old) + 2 ≤ MOST_PLACES }
-    requires room { kept_count map.old + 3 ≤ length store.old }
+    requires room { kept_count map.old + MARK_SIZE ≤ length store.old }
     ensures answer { result ≡ Ok tt }
     ensures edits { edits_of map.new store.new ≡ with_marks span (edits_of map.old store.old) }
-    ensures kept { kept_count map.new ≡ kept_count map.old + 3 }
+    ensures kept { kept_count map.new ≡ kept_count map.old + MARK_SIZE }
 {
     put_mark(map, store, span.to, b"}")?;
     put_mark(map, store, span.from, &[b'{', letter_of(span.kind)])

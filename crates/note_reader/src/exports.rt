@@ -9,6 +9,7 @@ fn answer(written: Result<usize, Failure>) -> u64 {
 }
 
 // Reads a whole note with the house set: one push, one end. Where it was refused, or memory was wanting, both numbers are 2^64 - 1.
+// Kept: numbers and no Option, since they go over the C interface.
 #[unsafe(no_mangle)]
 pub extern "C" fn read_whole(heap: Global, note: &[u8]) -> Reading {
     read_all(heap, note).unwrap_or(Reading {

@@ -21,6 +21,7 @@ impl From<AllocError> for Failure {
 }
 
 // 2^63, the refusal's number times 2^32, and its place as far as it fits. Number 0: no memory.
+// Kept: a number, since it goes over the C interface.
 impl From<Failure> for u64 {
     fn from(failure: Failure) -> u64 {
         let (number, place) = match failure {

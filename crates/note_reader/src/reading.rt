@@ -7,6 +7,7 @@ use punctuation::range_lists::{RangeList, house_set};
 use reader::Reader;
 use std::alloc::Global;
 use text::Fault;
+use text::lent::check_room;
 
 // What came of a note: the steps of the push and the end, and how many events there are then.
 #[derive(Clone, Copy)]
@@ -82,11 +83,8 @@ fn character_code(kind: CharacterKind) -> u8 {
 
 // The kind at each place, the end among them.
 pub fn put_kinds(note: &[u8], ranges: &[u32], out: &mut [u8]) -> Result<usize, Failure> {
-    if out.len() <= note.len() {
-        return Err(Failure::Refused(Fault::BufferTooShort(note.len().saturating_add(1))));
-    }
+    let places = check_room(note.len().saturating_add(1), out.len())?;
     let mut set = RangeList::new(ranges);
-    let places = note.len() + 1;
     for (index, code) in out[..places].iter_mut().enumerate() {
         *code = character_code(kind_after_index(note, index, &mut set));
     }

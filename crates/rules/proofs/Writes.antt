@@ -17,14 +17,6 @@ use Rattle.text.specs.Lent.{room_for, written_count, overwritten}
 use Rattle.text.specs.declared.spans.Span.{Span}
 use Rattle.rules.specs.Notes.{note_addresses, note_answer, note_written}
 
--- where there is room
-room_as : (n k : ℕ) (b : Bool) → Ok k ≡ cond b (Ok n) (Err (BufferTooShort n)) → (b ≡ true) × (k ≡ n)
-room_as n k true h = (refl, cc)
-room_as n k false h = let z : ◌≡◌ {A = ℕ} 0 1 = cc in absurd (omega arith)
-
-pub room : (n long k : ℕ) → Ok k ≡ room_for n long → (n ≤ long) × (k ≡ n)
-room n long k h = let w = room_as n k (leb n long) h in (leb-true n long w.0, w.1)
-
 -- one more span, the one of rank k
 pub write_one : (lent out all : List Span) (k : ℕ) (x : Span) → length all ≤ length lent → k < length all → x ≡ get_or all k x → out ≡ paste lent 0 all k → set out k x ≡ paste lent 0 all (k + 1)
 write_one lent out all k x fits lt is so_far =

@@ -64,6 +64,7 @@ pub(crate) fn write_front<I: Iterator<Item = Span> + Copy>(
     ensures written { (all : List TheSpan) → AlwaysYields I.next_gives (λ x. x) spans all → out.new ≡ overwritten all out.old }
 {
     let count = check_room(spans.count(), out.len())?;
+    // Kept: no zip with `out.iter_mut()`, tried: a proof then has no name for what `out` holds so far.
     for (place, span) in spans.enumerate() {
         out[place] = span;
     }

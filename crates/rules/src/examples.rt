@@ -50,7 +50,7 @@ pub fn example_address(rank: usize) -> Option<Span>
     mail_example(rank).address
 }
 
-// Kept: a function, since a proof has no name yet for a constant array of rows that hold references.
+// Kept: a function; a constant array was tried, but a proof has no name yet for one whose rows hold references.
 fn mail_example(rank: usize) -> MailExample
     ensures bytes { result.bytes.now ≡ (example rank).bytes }
     ensures address { option_to_list result.address ≡ (example rank).spans }

@@ -47,6 +47,7 @@ fn peek_bytes_atext(before: &[u8]) -> Option<usize>
 {
     let run = before.iter().rev().take_while(|b| is_atext(**b)).count();
     let start = before.len() - run;
+    // Kept: no `ends_with` with `then_some`, tried: the search for a proof gave up at what is returned.
     if run == 0 || (start > 0 && before[start - 1] == b'/') {
         None
     } else {
@@ -99,6 +100,7 @@ fn peek_bytes_email_domain(bytes: &[u8], start: usize, kind: SpanKind) -> Option
     if !bytes[start..stop].contains(&b'.') || bytes[start] == b'.' || !is_letter(bytes[stop - 1]) {
         return None;
     }
+    // Kept: no `get` compared with `Some`, tried: the proof for the last case did not close.
     if kind == SpanKind::Xmpp && stop < bytes.len() && bytes[stop] == b'/' {
         let end = peek_resource(bytes, stop + 1);
         if end > stop + 1 {

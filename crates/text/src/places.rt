@@ -19,6 +19,14 @@ pub struct Point {
     pub vs: usize,
 }
 
+// Where a note begins.
+pub const START: Point = Point {
+    line: 1,
+    column: 1,
+    index: 0,
+    vs: 0,
+};
+
 impl Point {
     // Moves a point on to the byte `index` of its note, or to the end.
     pub fn shift_to(&self, note: &[u8], index: usize) -> Result<Point, Fault>

@@ -12,8 +12,11 @@ use machine::Event;
 use machine::joins::is_seam;
 use text::notes::LONGEST_NOTE;
 
-// Two events for each byte of a note, and two for each of 64 links.
-pub const EVENTS_ROOM: usize = 2 * LONGEST_NOTE + 2 * 64;
+// Links that may be marked in one note.
+pub const LINKS_ROOM: usize = 64;
+
+// Two events for each byte of a note, and two for each link.
+pub const EVENTS_ROOM: usize = 2 * LONGEST_NOTE + 2 * LINKS_ROOM;
 
 pub type EventTable = Table<Event, EVENTS_ROOM>;
 

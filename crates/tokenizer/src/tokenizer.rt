@@ -13,6 +13,7 @@ pub const NAMES_ROOM: usize = 2;
 
 #[derive(Drop)]
 pub struct Tokenizer {
+    // Kept: a Vec and no Table, since it is filled as a whole, and never item by item.
     pub note: Vec<u8>,
     pub state: State,
     pub cursor: Cursor,

@@ -11,6 +11,7 @@ use super::EditMap;
 use super::store::copy_part;
 use crate::entries::Entry;
 use text::Fault;
+use text::lent::check_room;
 
 impl EditMap {
     // Writes the list with all edits made to the front of `out`, answers how many elements that is, and forgets the
@@ -74,9 +75,7 @@ impl EditMap {
         let Some(needed) = stays.checked_add(self.kept) else {
             return Err(Fault::BufferTooShort(usize::MAX));
         };
-        if needed > out.len() {
-            return Err(Fault::BufferTooShort(needed));
-        }
+        check_room(needed, out.len())?;
         Ok(apply(&self.entries, store, list, out))
     }
 }

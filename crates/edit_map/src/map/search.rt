@@ -17,7 +17,7 @@ impl EditMap {
     }
 }
 
-// How many elements they add.
+// How many elements these entries add.
 // Kept: a loop, since with `map` and `sum` edit_map_bench writes 218 million elements a second, and so 278 million.
 pub(crate) fn total_size(entries: &[Entry]) -> usize
     requires { sum_by (λ e. e.size) entries.now < 2 ^ 64 }

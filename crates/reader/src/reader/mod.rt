@@ -4,14 +4,12 @@ ghost use Rattle.reader.specs.Kept.{Kept};
 
 use calls::{MarkedRun, Phase};
 use engine::Engine;
+use tokenizer::event_table::LINKS_ROOM;
 use tokenizer::table::Table;
 
 mod events;
 mod making;
 mod reading;
-
-// Links that may be marked in one note.
-const LINKS_ROOM: usize = 64;
 
 // One note at a time, read with the reader's punctuation set.
 // Kept: `mark` and `paused` are no fields of Phase::Loaded, since the definition (calls/specs/Calls) tells them in every phase.

@@ -2,6 +2,7 @@
 // refused call changes nothing.
 ghost use Rattle.std.specs.Prelude.{◌≡◌, OnErr};
 ghost use Rattle.calls.specs.Calls.{new, load, push, end, unread};
+ghost use Rattle.calls.specs.Theorems.{EndFinds};
 ghost use Rattle.reader.specs.View.{view};
 
 use super::Reader;
@@ -61,6 +62,7 @@ impl<S: PunctuationSet> Reader<S> {
     // length or the last push paused.
     pub fn end(&mut self, allowance: u64) -> Result<Ran, Fault>
         ensures answer { (view self.new, result) ≡ end (S.member self.old.engine.set) (view self.old) allowance }
+        ensures finds { EndFinds (S.member self.old.engine.set) (view self.old) (view self.new, result) }
         ensures meaning_stays { S.member self.new.engine.set ≡ S.member self.old.engine.set }
         ensures refused { OnErr result (self.new ≡ self.old) }
     {

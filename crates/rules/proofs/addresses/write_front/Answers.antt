@@ -6,7 +6,8 @@ use Rattle.std.proofs.lemmas.Result.{err_from_is_err_and}
 use Rattle.std.specs.Iterator.{AlwaysYields}
 use Rattle.text.specs.declared.spans.Span.{Span}
 use Rattle.text.specs.Lent.{room_for}
-use Rattle.rules.proofs.Writes.{room, turn, turns-end, write_one, written_front, short_kept}
+use Rattle.text.proofs.Rooms.{enough_room}
+use Rattle.rules.proofs.Writes.{turn, turns-end, write_one, written_front, short_kept}
 use Rattle.rules.proofs.addresses.write_front.Given.{Over}
 use Rattle.rules.proofs.addresses.write_front.Goals as goal
 use Rattle.rules.proofs.addresses.write_front.Goals.{After-count, In-Some}
@@ -27,7 +28,7 @@ returns-in_err-count g c =
     record { answer = λ all e. p.1 ∙ ap Err p.2 ∙ h all e; written = λ all e. short_kept all out _ (h all e) }
 
 pub loop-place-init : goal.loop-place-init
-loop-place-init g c = λ all e. (omega (arith, (room _ _ _ c.in_ok-count.ensures).0, counted g (goal.at.loop-place-init g c).After-count all e), refl)
+loop-place-init g c = λ all e. (omega (arith, (enough_room _ _ _ c.in_ok-count.ensures).0, counted g (goal.at.loop-place-init g c).After-count all e), refl)
 
 -- the place and the span of this turn
 placed : (g : Over) (c : In-Some g) (all : List Span) → AlwaysYields g.I.Iterator.next_gives (λ x. x) c.args.spans all → (length c.loop-place.yielded < length all) × (c.in-Some.place ≡ length c.loop-place.yielded) × (c.in-Some.span ≡ get_or all (length c.loop-place.yielded) c.in-Some.span)
