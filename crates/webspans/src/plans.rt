@@ -1,0 +1,49 @@
+// How a note is read: what the options ask for.
+use std::num::{NonZeroU64, NonZeroUsize};
+
+#[derive(Clone, Copy)]
+pub struct Plan {
+    // bytes that a push goes on by
+    pub piece: NonZeroUsize,
+    // state calls in one call, at most
+    pub allowance: NonZeroU64,
+    pub shows_calls: bool,
+}
+
+impl Plan {
+    // One push and one end, each with all that it takes.
+    const PLAIN: Plan = Plan {
+        piece: NonZeroUsize::MAX,
+        allowance: NonZeroU64::MAX,
+        shows_calls: false,
+    };
+
+    // None where the words are no options, each with its number. Of an option that is given twice the last counts.
+    pub fn from_words(words: &[String]) -> Option<Plan> {
+        let (options, rest) = words.as_chunks::<2>();
+        if !rest.is_empty() {
+            return None;
+        }
+        let mut plan = Plan::PLAIN;
+        for [option, number] in options {
+            plan = plan.with(option.as_str(), number.as_str())?;
+        }
+        Some(plan)
+    }
+
+    fn with(self, option: &str, number: &str) -> Option<Plan> {
+        match option {
+            "--pieces" => Some(Plan {
+                piece: number.parse().ok()?,
+                shows_calls: true,
+                ..self
+            }),
+            "--allowance" => Some(Plan {
+                allowance: number.parse().ok()?,
+                shows_calls: true,
+                ..self
+            }),
+            _ => None,
+        }
+    }
+}

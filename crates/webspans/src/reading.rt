@@ -1,0 +1,70 @@
+// A note read by a plan.
+ghost use Rattle.std.specs.Prelude.{◌≡◌, ◌<◌, ◌≤◌, length, Ok, IfOk};
+ghost use Rattle.punctuation.specs.RangeLists.{house};
+ghost use Rattle.calls.specs.Calls.{new};
+ghost use Rattle.reader.specs.View.{view};
+ghost use Rattle.webspans.specs.Readings.{meaning, called, next_target, Accepts, ReadThrough};
+
+use crate::lines::Answered;
+use crate::plans::Plan;
+use machine::{Ran, Until};
+use punctuation::RangeList;
+use reader::Reader;
+use std::alloc::{AllocError, Global};
+
+pub type HouseReader = Reader<RangeList<'static>>;
+
+// Reads the whole note, and tells each call that it took.
+pub fn read_through(
+    heap: Global,
+    reader: &mut HouseReader,
+    note: &[u8],
+    plan: Plan,
+) -> Result<Vec<Answered>, AllocError>
+    requires new { view reader.old ≡ new }
+    requires meaning { meaning reader.old ≡ house }
+    requires short { length note.now ≤ 1024 }
+    ensures { IfOk result (λ calls. ReadThrough note.now calls.items (view reader.new)) }
+{
+    reader.load(note).unwrap();
+    let mut calls = Vec::new(heap);
+    let mut until = Until::Mark(note.len().min(plan.piece.get()));
+    // Ends: a paused call has made at least one of the finitely many steps that the note takes, and after a call that is done comes
+    // one that goes further.
+    loop {
+        let ran = read_on(reader, until, plan.allowance.get());
+        calls.push(Answered { until, ran })?;
+        if ran.done {
+            match next_target(until, note.len(), plan.piece.get()) {
+                Some(next) => until = next,
+                None => return Ok(calls),
+            }
+        }
+    }
+}
+
+fn read_on(reader: &mut HouseReader, until: Until, allowance: u64) -> Ran
+    requires allowed { 0 < allowance }
+    requires accepted { Accepts until (view reader.old) }
+    requires meaning { meaning reader.old ≡ house }
+    ensures answer { (view reader.new, Ok result) ≡ called until (view reader.old) allowance }
+    ensures meaning_stays { meaning reader.new ≡ house }
+{
+    match until {
+        Until::Mark(to) => reader.push(to, allowance),
+        Until::End => reader.end(allowance),
+    }
+    .unwrap()
+}
+
+// How far the next call reads, after one to `until` is done.
+fn next_target(until: Until, length: usize, piece: usize) -> Option<Until>
+    requires { length ≤ 1024 }
+    ensures { result ≡ next_target until length piece }
+{
+    match until {
+        Until::Mark(to) if to < length => Some(Until::Mark(to.saturating_add(piece).min(length))),
+        Until::Mark(_) => Some(Until::End),
+        Until::End => None,
+    }
+}

@@ -1,0 +1,68 @@
+// What the program prints of a note.
+ghost use Rattle.std.specs.Prelude.{◌≡◌, ◌++◌, string_bytes, IfOk, OnOk};
+ghost use Rattle.webspans.specs.Report.{call_lines, event_lines, total, steps_line, Printed};
+
+use crate::lines::{Answered, Listed, Steps};
+use crate::plans::Plan;
+use crate::reading::read_through;
+use machine::Event;
+use punctuation::range_lists::house_set;
+use reader::Reader;
+use std::alloc::{AllocError, Global};
+use std::fmt::Write;
+use text::notes::check_length;
+
+pub fn make_report(heap: Global, note: &[u8], plan: Plan) -> Result<String, AllocError>
+    ensures { IfOk result (λ s. Printed plan note.now (string_bytes s)) }
+{
+    if let Err(fault) = check_length(note) {
+        return format!(in heap; "{fault}\n");
+    }
+    let mut reader = Reader::new(heap, house_set())?;
+    let calls = read_through(heap, &mut reader, note, plan)?;
+    let mut report = String::new(heap);
+    if plan.shows_calls {
+        list_calls(&mut report, &calls)?;
+    }
+    list_events(&mut report, reader.events())?;
+    list_steps(&mut report, &calls)?;
+    Ok(report)
+}
+
+fn list_calls(report: &mut String, calls: &[Answered]) -> Result<(), AllocError>
+    ensures { OnOk result (string_bytes report.new ≡ string_bytes report.old ++ call_lines calls.now) }
+{
+    for call in calls {
+        writeln!(report, "{call}")?;
+    }
+    Ok(())
+}
+
+fn list_events(report: &mut String, events: &[Event]) -> Result<(), AllocError>
+    ensures { OnOk result (string_bytes report.new ≡ string_bytes report.old ++ event_lines events.now) }
+{
+    for event in events {
+        let line = Listed(*event);
+        writeln!(report, "{line}")?;
+    }
+    Ok(())
+}
+
+// The steps of all calls.
+fn list_steps(report: &mut String, calls: &[Answered]) -> Result<(), AllocError>
+    ensures { OnOk result (string_bytes report.new ≡ string_bytes report.old ++ steps_line calls.now) }
+{
+    let steps = Steps(total_steps(calls));
+    writeln!(report, "{steps}")
+}
+
+// As far as 64 bits tell.
+fn total_steps(calls: &[Answered]) -> u64
+    ensures { result ≡ total calls.now }
+{
+    let mut total: u64 = 0;
+    for call in calls {
+        total = total.saturating_add(call.ran.steps);
+    }
+    total
+}
