@@ -29,12 +29,13 @@ refused plan s f out e p =
     subst (λ b. PrintedAs b plan s out) (sym is.1) (p ∙ ap (λ x. refusal_shown x ++ newline) is.0)
 
 -- calls, events and steps, each behind what was written
-pub reports : (plan : Plan) (s : List ℕ) (calls : List Answered) (m : Model) (a b out : List ℕ) → too_long s ≡ false → ReadThrough s calls m →
+pub reports : (plan : Plan) (s : List ℕ) (calls : List Answered) (m : Model) (a b out : List ℕ) → too_long s ≡ false → ReadThrough plan s calls m →
     a ≡ cond plan.shows_calls (call_lines calls) [] → b ≡ a ++ event_lines m.machine.events → out ≡ b ++ steps_line calls → Printed plan s out
 reports plan s calls m a b out short read p q r =
     subst (λ t. PrintedAs t plan s out) (sym short)
     (record {
       calls = calls;
+      made = read.made;
       steps = read.steps;
       printed =
           r ∙ ap (λ l. l ++ steps_line calls) (q ∙ ap (λ l. l ++ event_lines m.machine.events) p)

@@ -1,6 +1,7 @@
 -- A note that is being read: what its reader and the calls so far tell, and that each call leads on.
 -- Assumes nothing.
-use Rattle.std.proofs.Common.{◌≡◌, ℕ, ◌+◌, ◌-◌, ◌<◌, ◌≤◌, min, Bool, true, false, not, ◌&&◌, ◌||◌, eqb, ltb, List, [], ◌∷◌, ◌++◌, length, Some, None, Ok, Option, Result, sym, refl, ap, ◌∙◌, subst, add_assoc, zero-add, ⊎_elim, arith}
+use Rattle.std.proofs.Common.{◌≡◌, ℕ, zero, suc, ◌+◌, ◌-◌, ◌<◌, ◌≤◌, min, Bool, true, false, not, ◌&&◌, ◌||◌, eqb, ltb, List, [], ◌∷◌, ◌++◌, length, Some, None, Ok, Option, Result, sym, refl, ap, ◌∙◌, subst, add_assoc, append_assoc, append-nil, length-append, zero-add, ⊎_elim, arith}
+use Rattle.std.specs.NonZero.{non_zero_u64_get, non_zero_usize_get}
 use Rattle.std.proofs.lemmas.Bool.{cases_lt, cond-true, cond-false, and_from, le-ltb, lt-ltb, ne_eqb, or_from}
 use Rattle.text.specs.declared.refusals.Fault.{Fault}
 use Rattle.punctuation.specs.RangeLists.{house}
@@ -25,7 +26,8 @@ use Rattle.calls.specs.declared.phases.Phase.TheVariants.{Loaded, Ending, Ended}
 use Rattle.reader.specs.View.{view}
 use Rattle.reader.specs.declared.reader.Reader.{Reader}
 use Rattle.webspans.specs.declared.lines.Answered.{Answered}
-use Rattle.webspans.specs.Readings.{meaning, called, next_target, Accepts, steps_made, TakesSteps, ReadThrough}
+use Rattle.webspans.specs.declared.plans.Plan.{Plan}
+use Rattle.webspans.specs.Readings.{meaning, called, next_target, ran_of, then_target, calls_from, first_calls, AllCalls, Accepts, steps_made, TakesSteps, ReadThrough}
 
 -- ---- steps
 
@@ -123,8 +125,13 @@ abbrev pub targets_left : ℕ → Until → ℕ
 targets_left n (Mark to) = 1 + (n - to)
 targets_left n End = 0
 
+-- these calls, and then those from one to u on, read the note
+abbrev pub Before : Plan → List ℕ → List Answered → Until → Model → Type 0
+Before plan s calls u m = (n : ℕ) → first_calls plan s (length calls + n) ≡ calls ++ calls_from (length s) (non_zero_usize_get plan.piece) (non_zero_u64_get plan.allowance) n (Some u) m
+
 -- after these calls, the next one, to u, is accepted and goes on with the note
-pub record Underway (s : List ℕ) (calls : List Answered) (u : Until) (r : Reader RangeList) : Type 0 where
+pub record Underway (plan : Plan) (s : List ℕ) (calls : List Answered) (u : Until) (r : Reader RangeList) : Type 0 where
+  pub before : Before plan s calls u (view r)
   pub means : meaning r ≡ house
   pub accepts : Accepts u (view r)
   pub sound : Sound s (view r).machine
@@ -135,10 +142,16 @@ pub loads : (r r' : Reader RangeList) (s : List ℕ) (answer : Result (Unit {0})
 loads r r' s answer short is e =
     ap (λ (x : Model × Result (Unit {0}) Fault). x.0) (e ∙ ap (λ m. load m s) is ∙ cond-false (ltb 1024 (length s)) _ _ (le-ltb 1024 (length s) short))
 
-pub begins : (s : List ℕ) (calls : List Answered) (r : Reader RangeList) (n : ℕ) → calls ≡ [] → n ≤ length s → meaning r ≡ house → view r ≡ loaded s → Underway s calls (Mark n) r
-begins s calls r n none le means e = record {
+begins-before : (plan : Plan) (s : List ℕ) (calls : List Answered) (k : ℕ) → calls ≡ [] → k ≡ min (length s) (non_zero_usize_get plan.piece) → Before plan s calls (Mark k) (loaded s)
+begins-before plan s calls k none is n =
+    ap (first_calls plan s) (ap (λ (cs : List Answered). length cs + n) none ∙ zero-add n)
+    ∙ (λ i. sym none i ++ calls_from (length s) (non_zero_usize_get plan.piece) (non_zero_u64_get plan.allowance) n (Some (Mark (sym is i))) (loaded s))
+
+pub begins : (plan : Plan) (s : List ℕ) (calls : List Answered) (r : Reader RangeList) (n : ℕ) → calls ≡ [] → n ≡ min (length s) (non_zero_usize_get plan.piece) → meaning r ≡ house → view r ≡ loaded s → Underway plan s calls (Mark n) r
+begins plan s calls r n none is means e = record {
+  before = subst (Before plan s calls (Mark n)) (sym e) (begins-before plan s calls n none is);
   means = means;
-  accepts = subst (Accepts (Mark n)) (sym e) (refl, omega arith, le);
+  accepts = subst (Accepts (Mark n)) (sym e) (refl, omega arith, omega (arith, is));
   sound = subst (λ (m : Model). Sound s m.machine) (sym e) (sound_beginning s);
   leads = subst (λ (m : Model). LeadsTo s (steps_made calls) m.machine) (sym e) (subst (λ n. LeadsTo s n (beginning s)) (sym (ap steps_made none)) (leads-begin s));
 }
@@ -209,7 +222,7 @@ ok_is x y e = cc
 
 -- ---- a call more
 
-module _ (s : List ℕ) (calls : List Answered) (u : Until) (r r' : Reader RangeList) (a : ℕ) (ran : Ran) (h : Underway s calls u r) (pos : 0 < a)
+module _ (plan : Plan) (s : List ℕ) (calls : List Answered) (u : Until) (r r' : Reader RangeList) (ran : Ran) (h : Underway plan s calls u r) (a : ℕ) (value : a ≡ non_zero_u64_get plan.allowance) (pos : 0 < a)
     (e : ◌≡◌ {A = Model × Result Ran Fault} (view r', Ok ran) (called u (view r) a)) (means' : meaning r' ≡ house)
     (calls' : List Answered) (q : calls' ≡ calls ++ record { until = u; ran = ran } ∷ []) where
   abbrev m : Model
@@ -239,10 +252,34 @@ module _ (s : List ℕ) (calls : List Answered) (u : Until) (r r' : Reader Range
   same-note : o.after.note ≡ m.machine.note
   same-note = (sound_lawful after-sound).note ∙ sym (sound_lawful h.sound).note
 
-  reader-on : (next : Until) → (moved u o m).machine ≡ o.after → Accepts next (moved u o m) → Underway s calls' next r'
-  reader-on next is accepts =
+  abbrev rest : ℕ → Option Until → List Answered
+  rest n next = calls_from (length s) (non_zero_usize_get plan.piece) (non_zero_u64_get plan.allowance) n next (view r')
+
+  abbrev next_after : Option Until
+  next_after = then_target ran.done u (length s) (non_zero_usize_get plan.piece)
+
+  -- this call, and then those that follow it
+  goes-on : (n : ℕ) → first_calls plan s (length calls' + n) ≡ calls' ++ rest n next_after
+  goes-on n =
+      let c : Answered = record { until = u; ran = ran } in
+      let p : ℕ = non_zero_usize_get plan.piece in
+      let k : ℕ = non_zero_u64_get plan.allowance in
+      let answer : ◌≡◌ {A = Model × Result Ran Fault} (view r', Ok ran) (called u m k) = e ∙ ap (called u m) value in
+      let more : length calls' + n ≡ length calls + suc n = omega (arith, ap length q, length-append calls (c ∷ [])) in
+      ap (first_calls plan s) more
+      ∙ h.before (suc n)
+      ∙ ap (λ (x : Model × Result Ran Fault). calls ++ record { until = u; ran = ran_of x.1 } ∷ calls_from (length s) p k n (then_target (ran_of x.1).done u (length s) p) x.0) (sym answer)
+      ∙ sym (append_assoc calls (c ∷ []) (rest n next_after))
+      ∙ ap (λ cs. cs ++ rest n next_after) (sym q)
+
+  before-on : (next : Until) → next_after ≡ Some next → Before plan s calls' next (view r')
+  before-on next is n = goes-on n ∙ ap (λ x. calls' ++ rest n x) is
+
+  reader-on : (next : Until) → next_after ≡ Some next → (moved u o m).machine ≡ o.after → Accepts next (moved u o m) → Underway plan s calls' next r'
+  reader-on next follows is accepts =
       let machine-is : (view r').machine ≡ o.after = ap (λ (x : Model). x.machine) view-is ∙ is in
       record {
+        before = before-on next follows;
         means = means';
         accepts = subst (Accepts next) (sym view-is) accepts;
         sound = subst (Sound s) (sym machine-is) after-sound;
@@ -252,10 +289,10 @@ module _ (s : List ℕ) (calls : List Answered) (u : Until) (r r' : Reader Range
   abbrev left : ℕ → Until → ℕ
   left made v = targets_left (length s) v + ((finds_links house s).enough - made)
 
-  pub paused-on : ran.done ≡ false → Underway s calls' u r'
+  pub paused-on : ran.done ≡ false → Underway plan s calls' u r'
   paused-on p =
       let d : o.done ≡ false = sym (ap (λ (x : Ran). x.done) ran-is) ∙ p in
-      reader-on u (machine-paused u o m d) (accepts-paused u o m d same-note h.accepts)
+      reader-on u (cond-false ran.done _ _ p) (machine-paused u o m d) (accepts-paused u o m d same-note h.accepts)
 
   pub paused-left : ran.done ≡ false → left (steps_made calls') u < left (steps_made calls) u
   paused-left p =
@@ -263,28 +300,39 @@ module _ (s : List ℕ) (calls : List Answered) (u : Until) (r r' : Reader Range
       let all : o.steps ≡ a = (pauses_exactly house u m.machine a 0).1.0 d in
       omega (arith, leads-within s (steps_made calls') o.after after-leads, made-is, all, pos)
 
-  module _ (next : Until) (piece : ℕ) (some : 0 < piece) (is : Some next ≡ next_target u (length s) piece) (p : ran.done ≡ true) where
+  module _ (next : Until) (some : 0 < non_zero_usize_get plan.piece) (is : Some next ≡ next_target u (length s) (non_zero_usize_get plan.piece)) (p : ran.done ≡ true) where
     d : o.done ≡ true
     d = sym (ap (λ (x : Ran). x.done) ran-is) ∙ p
 
     followed : Follows (length s) u next o m
-    followed = follows (length s) piece u next o m some d (ap length (sound_lawful after-sound).note) h.accepts is
+    followed = follows (length s) (non_zero_usize_get plan.piece) u next o m some d (ap length (sound_lawful after-sound).note) h.accepts is
 
-    pub done-on : Underway s calls' next r'
-    done-on = reader-on next followed.push followed.accepts
+    pub done-on : Underway plan s calls' next r'
+    done-on = reader-on next (cond-true ran.done _ _ p ∙ sym is) followed.push followed.accepts
 
     pub done-left : left (steps_made calls') next < left (steps_made calls) u
     done-left = omega (arith, followed.fewer, made-is)
 
+  nothing : (n : ℕ) → rest n None ≡ []
+  nothing zero = refl
+  nothing (suc n) = refl
+
+  all-calls : next_after ≡ None → AllCalls plan s calls'
+  all-calls none n le =
+      let k : ℕ = n - length calls' in
+      let more : n ≡ length calls' + k = omega arith in
+      ap (first_calls plan s) more ∙ goes-on k ∙ ap (λ x. calls' ++ rest k x) none ∙ ap (λ cs. calls' ++ cs) (nothing k) ∙ append-nil calls'
+
   -- the end is done
-  pub read_through : (piece : ℕ) → next_target u (length s) piece ≡ None → ran.done ≡ true → ReadThrough s calls' (view r')
-  read_through piece none p =
-      let last : u ≡ End = last-end (length s) piece u none in
+  pub read_through : next_target u (length s) (non_zero_usize_get plan.piece) ≡ None → ran.done ≡ true → ReadThrough plan s calls' (view r')
+  read_through none p =
+      let last : u ≡ End = last-end (length s) (non_zero_usize_get plan.piece) u none in
       let same : outcome u a m ≡ outcome End a m = ap (λ v. outcome v a m) last in
       let d : (outcome End a m).done ≡ true = sym (ap (λ (x : Outcome). x.done) same) ∙ sym (ap (λ (x : Ran). x.done) ran-is) ∙ p in
       let all = leads-done s (steps_made calls) m.machine a h.leads d in
       let made : steps_made calls' ≡ steps_made calls + (outcome End a m).steps = made-is ∙ ap (λ (x : Outcome). steps_made calls + x.steps) same in
       record {
+        made = all-calls (cond-true ran.done _ _ p ∙ none);
         events =
             ap (λ (x : Model). x.machine.events) view-is ∙ ap (λ v. (moved v (outcome v a m) m).machine.events) last
             ∙ cond-true (outcome End a m).done (joined (outcome End a m).after.events) (outcome End a m).after.events d

@@ -11,7 +11,7 @@ use Rattle.findings.specs.Pieces.{segment_events}
 use Rattle.webspans.specs.declared.lines.Answered.{Answered}
 use Rattle.webspans.specs.declared.plans.Plan.{Plan}
 use Rattle.webspans.specs.Lines.{event_shown, steps_shown, answered_shown}
-use Rattle.webspans.specs.Readings.{steps_made, TakesSteps}
+use Rattle.webspans.specs.Readings.{steps_made, AllCalls, TakesSteps}
 
 abbrev pub newline : List ℕ
 newline = codes "\n"
@@ -38,6 +38,7 @@ findings s calls = event_lines (segment_events s (segments house s)) ++ steps_li
 -- what is printed of a note that is not too long
 pub record Reported (plan : Plan) (s : List ℕ) (out : List ℕ) : Type 0 where
   pub calls : List Answered
+  pub made : AllCalls plan s calls
   pub steps : TakesSteps s (steps_made calls)
   pub printed : out ≡ cond plan.shows_calls (call_lines calls) [] ++ findings s calls
 

@@ -1,5 +1,5 @@
-// Prints the web spans, line endings and data of the note on standard input, event by event, and how many steps it took to find
-// them: docs/FORMATS.md, section 8. With an option it reads in pieces or with pauses, and prints each call first.
+// Prints the events of the note on standard input, those of its web spans, line endings and data, and the steps that reading took.
+// With an option it reads in pieces, or with pauses, and prints each call first: docs/FORMATS.md, section 8.
 #![tactic(auto)]
 
 mod lines;

@@ -24,13 +24,13 @@ pub fn read_through(
     requires new { view reader.old ≡ new }
     requires meaning { meaning reader.old ≡ house }
     requires short { length note.now ≤ 1024 }
-    ensures { IfOk result (λ calls. ReadThrough note.now calls.items (view reader.new)) }
+    ensures { IfOk result (λ calls. ReadThrough plan note.now calls.items (view reader.new)) }
 {
     reader.load(note).unwrap();
     let mut calls = Vec::new(heap);
     let mut until = Until::Mark(note.len().min(plan.piece.get()));
-    // Ends: a paused call has made at least one of the finitely many steps that the note takes, and after a call that is done comes
-    // one that goes further.
+    // This ends: a paused call has made a step or more of those that the note takes, which are finitely many, and after a
+    // call that is done comes one that goes further.
     loop {
         let ran = read_on(reader, until, plan.allowance.get());
         calls.push(Answered { until, ran })?;

@@ -6,7 +6,7 @@ use Rattle.webspans.proofs.Underway.{Underway, targets_left}
 use Rattle.webspans.proofs.reading.read_through.Given as goal
 
 abbrev pub invariant-loop-calls : goal.invariant-loop-calls
-invariant-loop-calls l = Underway l.note (vec_items l.calls) l.until l.reader
+invariant-loop-calls l = Underway l.plan l.note (vec_items l.calls) l.until l.reader
 
 -- how far there is to go, and the steps that are left
 abbrev pub decreases-loop-calls : goal.decreases-loop-calls
