@@ -32,12 +32,12 @@ abbrev pub next_target : Until → ℕ → ℕ → Option Until
 next_target (Mark to) length piece = cond (nat_lt to length) (Some (Mark (min (to + piece) length))) (Some End)
 next_target End length piece = None
 
--- no call by a plan is refused
+-- how a call ran; no call by a plan is refused, so what stands for a refusal does not matter
 abbrev pub ran_of : Result Ran Fault → Ran
 ran_of (Ok ran) = ran
 ran_of (Err refusal) = record { steps = 0; done = false }
 
--- the same again while it is paused
+-- how far the call after one to u reads: as far again where that one paused
 abbrev pub then_target : Bool → Until → ℕ → ℕ → Option Until
 then_target done u length piece = cond done (next_target u length piece) (Some u)
 
@@ -56,11 +56,11 @@ first_calls plan s n =
     let piece : ℕ = non_zero_usize_get plan.piece in
     calls_from (length s) piece (non_zero_u64_get plan.allowance) n (Some (Mark (min (length s) piece))) (loaded s)
 
--- these are all of them
+-- these are all of them: no call follows
 abbrev pub AllCalls : Plan → List ℕ → List Answered → Type 0
 AllCalls plan s calls = (n : ℕ) → length calls ≤ n → first_calls plan s n ≡ calls
 
--- a call to u is not refused, with an allowance
+-- a call to u is not refused, unless its allowance is 0
 abbrev pub Accepts : Until → Model → Type 0
 Accepts (Mark to) m = (m.phase ≡ Loaded) × (m.mark ≤ to) × (to ≤ length m.machine.note)
 Accepts End m = (is_empty m.phase ≡ false) × (is_over m.phase ≡ false) × (unread m ≡ false)

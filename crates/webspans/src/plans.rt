@@ -1,4 +1,7 @@
 // How a note is read: what the options ask for.
+ghost use Rattle.std.specs.Prelude.{◌≡◌, ◌<◌, length, IfSome, true};
+ghost use Rattle.webspans.specs.Plans.{Plain, Changed};
+
 use std::num::{NonZeroU64, NonZeroUsize};
 
 #[derive(Clone, Copy)]
@@ -11,7 +14,7 @@ pub struct Plan {
 }
 
 impl Plan {
-    // One push and one end, each with all that it takes.
+    // One push and one end, each with an allowance that no note is known to use up.
     const PLAIN: Plan = Plan {
         piece: NonZeroUsize::MAX,
         allowance: NonZeroU64::MAX,
@@ -19,7 +22,10 @@ impl Plan {
     };
 
     // None where the words are no options, each with its number. Of an option that is given twice the last counts.
-    pub fn from_words(words: &[String]) -> Option<Plan> {
+    pub fn from_words(words: &[String]) -> Option<Plan>
+        ensures plain { length words.now ≡ 0 → IfSome result (λ plan. Plain plan) }
+        ensures watched { 0 < length words.now → IfSome result (λ plan. plan.shows_calls ≡ true) }
+    {
         let (options, rest) = words.as_chunks::<2>();
         if !rest.is_empty() {
             return None;
@@ -31,7 +37,9 @@ impl Plan {
         Some(plan)
     }
 
-    fn with(self, option: &str, number: &str) -> Option<Plan> {
+    fn with(self, option: &str, number: &str) -> Option<Plan>
+        ensures { IfSome result (λ plan. Changed option.now number.now self plan) }
+    {
         match option {
             "--pieces" => Some(Plan {
                 piece: number.parse().ok()?,
