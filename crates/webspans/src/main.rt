@@ -1,5 +1,5 @@
-// Prints the events of the note on standard input, those of its web spans, line endings and data, and the steps that reading took.
-// With an option it reads in pieces, or with pauses, and prints each call first: docs/FORMATS.md, section 8.
+// Prints the events of the note on standard input, which are those of its web spans, line endings and data, and the steps
+// that it took. With an option it reads in pieces, or with pauses, and prints each call first: docs/FORMATS.md, section 8.
 #![tactic(auto)]
 
 mod lines;

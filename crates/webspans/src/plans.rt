@@ -1,6 +1,6 @@
 // How a note is read: what the options ask for.
-ghost use Rattle.std.specs.Prelude.{◌≡◌, ◌<◌, length, IfSome, true};
-ghost use Rattle.webspans.specs.Plans.{Plain, Changed};
+ghost use Rattle.std.specs.Prelude.{◌≡◌, length, IfNone, IfSome, IsSome};
+ghost use Rattle.webspans.specs.Plans.{Understood, Changed, Asked};
 
 use std::num::{NonZeroU64, NonZeroUsize};
 
@@ -23,8 +23,8 @@ impl Plan {
 
     // None where the words are no options, each with its number. Of an option that is given twice the last counts.
     pub fn from_words(words: &[String]) -> Option<Plan>
-        ensures plain { length words.now ≡ 0 → IfSome result (λ plan. Plain plan) }
-        ensures watched { 0 < length words.now → IfSome result (λ plan. plan.shows_calls ≡ true) }
+        ensures asked { IfSome result (λ plan. Asked words.now plan) }
+        ensures plain { length words.now ≡ 0 → IsSome result }
     {
         let (options, rest) = words.as_chunks::<2>();
         if !rest.is_empty() {
@@ -38,7 +38,8 @@ impl Plan {
     }
 
     fn with(self, option: &str, number: &str) -> Option<Plan>
-        ensures { IfSome result (λ plan. Changed option.now number.now self plan) }
+        ensures changed { IfSome result (λ plan. Changed option.now number.now self plan) }
+        ensures refused { IfNone result (¬ Understood option.now number.now) }
     {
         match option {
             "--pieces" => Some(Plan {

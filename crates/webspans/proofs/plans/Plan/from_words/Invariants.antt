@@ -1,9 +1,5 @@
-use Rattle.std.proofs.Common.{◌≡◌, ◌<◌, true}
-use Rattle.webspans.specs.Plans.{Plain}
+use Rattle.webspans.specs.Plans.{AskedFor}
 use Rattle.webspans.proofs.plans.Plan.from_words.Given as goal
 
 abbrev pub invariant-loop-option : goal.invariant-loop-option
-invariant-loop-option l = record {
-  plain : l.option-index ≡ 0 → Plain l.plan;
-  watched : 0 < l.option-index → l.plan.shows_calls ≡ true;
-}
+invariant-loop-option l = AskedFor l.words l.option-index l.plan
