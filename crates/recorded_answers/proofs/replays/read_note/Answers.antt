@@ -1,0 +1,29 @@
+use Rattle.std.proofs.Common.{◌∙◌, ap}
+use Rattle.reader.specs.View.{view}
+use Rattle.recorded_answers.proofs.Pushes.{read_through}
+use Rattle.recorded_answers.proofs.replays.read_note.Goals as goal
+
+pub returns : goal.returns
+returns g c =
+    let member = g.S.PunctuationSet.member in
+    read_through
+    (member c.args.reader.now.engine.set)
+    (member c.load.new.self.engine.set)
+    (member c.push_all.new.reader.engine.set)
+    (ap member c.load.ensures.set)
+    c.push_all.ensures.meaning_stays
+    (view c.args.reader.now)
+    (view c.load.new.self)
+    (view c.push_all.new.reader)
+    (view c.end.new.self)
+    c.args.note.now
+    c.args.pushes.now
+    c.in_ok-runs.runs.items
+    c.in_ok-ran.ran
+    c.in_ok-load.ensures.answer
+    c.in_ok-runs.ensures.answer
+    c.in_ok-ran.ensures.answer
+    c.push.new.self.items
+    c.in_ok-events.events.items
+    c.in_ok-push.ensures.items
+    (c.in_ok-events.ensures.items ∙ c.events.ensures)
