@@ -1,11 +1,14 @@
 -- What a reader answers where a note is read by given pushes and one end.
 -- Assumes nothing.
-use Rattle.std.specs.Prelude.{ℕ, ◌-◌, ◌^◌, Bool, List, [], ◌∷◌, ◌++◌, Ok, Err, Result}
+use Rattle.std.specs.Prelude.{◌≡◌, ℕ, ◌-◌, ◌^◌, Bool, List, [], ◌∷◌, ◌++◌, Ok, Err, Result}
 use Rattle.text.specs.declared.refusals.Fault.{Fault}
 use Rattle.machine.specs.declared.runs.Ran.{Ran}
 use Rattle.calls.specs.Calls.{Model, new, load, push, end}
+use Rattle.punctuation.specs.RangeLists.{range_member}
+use Rattle.recorded_answers.specs.declared.lines.RecordedNote.{RecordedNote}
 use Rattle.recorded_answers.specs.declared.records.Push.{Push}
-use Rattle.recorded_answers.specs.Agreement.{Said}
+use Rattle.recorded_answers.specs.Agreement.{Said, said}
+use Rattle.recorded_answers.specs.Sets.{set_numbers}
 
 -- an answer in front of those that follow
 abbrev pub in_front : Ran → Result (Model × List Ran) Fault → Result (Model × List Ran) Fault
@@ -37,3 +40,7 @@ reading member ps (m, Err f) = Err f
 -- a new reader with this set takes the note
 abbrev pub replayed : (ℕ → Bool) → List ℕ → List Push → Result Said Fault
 replayed member s ps = reading member ps (load new s)
+
+-- by the definition of the calls, a reader answers what is recorded
+abbrev pub IsAnsweredAsRecorded : RecordedNote → Type 0
+IsAnsweredAsRecorded r = replayed (range_member (set_numbers r.set)) r.note.items r.pushes.items ≡ Ok (said r.answers)

@@ -12,7 +12,7 @@ pub struct Answers {
     pub events: Vec<Event>,
 }
 
-// A place in two lists, and what each has there.
+// A place in two lists, from 0, and what each has there.
 #[derive(Clone, Copy, Debug)]
 pub struct Unlike<T> {
     pub place: usize,

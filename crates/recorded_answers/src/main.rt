@@ -3,33 +3,19 @@
 #![tactic(auto)]
 
 mod answers;
+mod checks;
 mod lines;
 mod records;
 mod replays;
 mod sets;
 mod tallies;
 
-use answers::{Difference, check_agreement};
-use lines::{LineError, parse_line};
-use replays::{ReplayError, replay};
-use std::alloc::Global;
+use checks::check_line;
 use std::{env, fs, io};
 use tallies::Tally;
-use thiserror::Error;
 
 // The list that is read where no other is named.
 const LIST: &str = "answers.txt";
-
-// Why a line of the list does not agree.
-#[derive(Debug, Drop, Error)]
-enum Mismatch {
-    #[error(transparent)]
-    Line(#[from] LineError),
-    #[error(transparent)]
-    Replay(#[from] ReplayError),
-    #[error(transparent)]
-    Answers(#[from] Difference),
-}
 
 fn main(rt: HostRuntime) -> io::Result<()> {
     let list = read_list(&rt)?;
@@ -56,16 +42,10 @@ fn check_list(rt: &(impl Print + AllocGlobal), list: &str) -> io::Result<Tally> 
     Ok(tally)
 }
 
-fn check_line(heap: Global, line: &str) -> Result<(), Mismatch> {
-    let recorded = parse_line(heap, line)?;
-    let given = replay(heap, &recorded)?;
-    check_agreement(&recorded.answers, &given)?;
-    Ok(())
-}
-
 #[cfg(test)]
 mod tests {
-    use super::{Mismatch, check_line, check_list};
+    use super::check_list;
+    use crate::checks::{Mismatch, check_line};
     use crate::tallies::Tally;
     use std::test::Fail;
 
