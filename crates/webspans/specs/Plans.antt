@@ -43,3 +43,8 @@ pub record Asked (words : List (String Global)) (plan : Plan) : Type 0 where
   pub options : ℕ
   pub all : length words ≡ 2 * options
   pub asked : AskedFor words options plan
+
+-- each word has its pair, and each pair is understood
+pub record AllUnderstood (words : List (String Global)) : Type 0 where
+  pub paired : length words ≡ 2 * (length words / 2)
+  pub each : (k : ℕ) → k < length words / 2 → Understood (word words k 0) (word words k 1)

@@ -1,6 +1,6 @@
 // How a note is read: what the options ask for.
-ghost use Rattle.std.specs.Prelude.{◌≡◌, length, IfNone, IfSome, IsSome};
-ghost use Rattle.webspans.specs.Plans.{Understood, Changed, Asked};
+ghost use Rattle.std.specs.Prelude.{IfNone, IfSome};
+ghost use Rattle.webspans.specs.Plans.{Understood, AllUnderstood, Changed, Asked};
 
 use std::num::{NonZeroU64, NonZeroUsize};
 
@@ -24,7 +24,7 @@ impl Plan {
     // None where the words are no options, each with its number. Of an option that is given twice the last counts.
     pub fn from_words(words: &[String]) -> Option<Plan>
         ensures asked { IfSome result (λ plan. Asked words.now plan) }
-        ensures plain { length words.now ≡ 0 → IsSome result }
+        ensures refused { IfNone result (¬ AllUnderstood words.now) }
     {
         let (options, rest) = words.as_chunks::<2>();
         if !rest.is_empty() {
