@@ -6,9 +6,11 @@ use Rattle.std.proofs.lemmas.List.{length_push}
 use Rattle.machine.specs.declared.cursors.Until.TheVariants.{Mark, End}
 use Rattle.machine.specs.declared.events.Event.{Event}
 use Rattle.machine.specs.Joins.{joined}
-use Rattle.machine.specs.Moves.{Machine, with_tables}
+use Rattle.machine.specs.Moves.{Machine, settled, with_tables}
 use Rattle.machine.specs.Runs.{run}
+use Rattle.machine.specs.Invariant.{Sound}
 use Rattle.machine.proofs.Facts.{sound_lawful}
+use Rattle.machine.proofs.Turns.{settled_sound}
 use Rattle.findings.specs.Findings.{FindsTheLinks}
 use Rattle.calls.specs.declared.links.MarkedRun.{MarkedRun}
 use Rattle.calls.specs.declared.phases.Phase.{Phase}
@@ -19,8 +21,8 @@ use Rattle.calls.specs.Calls.{Model, new, is_empty, is_loaded, is_over, answer_o
 use Rattle.calls.specs.Claims.{FullyRead, FullyResolved}
 use Rattle.calls.specs.EventLists.{LawfulEvents}
 use Rattle.calls.specs.Links.{beyond, markable, marked_in_turn, resolved, ended_events, resolved_events}
-use Rattle.calls.specs.Steps.{held, is_ended, most_links, most_events, run_of, with_link, with_resolved, answer, step}
-use Rattle.calls.specs.Moments.{after, answers, Told, nothing, telling, told, Moment}
+use Rattle.calls.specs.Steps.{held, is_ended, is_resolved, most_links, most_events, run_of, with_link, with_resolved, answer, step}
+use Rattle.calls.specs.Moments.{after, answers, Reachable, Told, nothing, telling, told, AlwaysTrue, Moment}
 use Rattle.calls.proofs.Checks.{checks, by_checks}
 use Rattle.calls.proofs.Ended.{ended-lawful, ended-read}
 use Rattle.calls.proofs.Lengths.{ended-room, resolved-room}
@@ -125,6 +127,43 @@ module _ (member : ℕ → Bool) (finds : FindsTheLinks) where
   fits-at Resolved t m short few a = omega (arith, ap length a.holds, resolved-room member t.note t.links a.in_turn)
 
   -- ---- each call keeps it
+
+  over_told : (p : Phase) (t : Told) (m : Model) → is_over p ≡ true → At p t m → t.ended ≡ true
+  over_told Empty t m e a = absurd (true≢false (sym e))
+  over_told Loaded t m e a = absurd (true≢false (sym e))
+  over_told Ending t m e a = absurd (true≢false (sym e))
+  over_told Ended t m e a = a.ended
+  over_told Resolved t m e a = a.ended
+
+  resolved_told : (p : Phase) (t : Told) (m : Model) → is_resolved p ≡ true → At p t m → t.resolved ≡ true
+  resolved_told Empty t m e a = absurd (true≢false (sym e))
+  resolved_told Loaded t m e a = absurd (true≢false (sym e))
+  resolved_told Ending t m e a = absurd (true≢false (sym e))
+  resolved_told Ended t m e a = absurd (true≢false (sym e))
+  resolved_told Resolved t m e a = a.resolved
+
+  may_resolve : (p : Phase) (t : Told) (m : Model) → is_ended p ≡ true → At p t m → Over t m
+  may_resolve Empty t m e a = absurd (true≢false (sym e))
+  may_resolve Loaded t m e a = absurd (true≢false (sym e))
+  may_resolve Ending t m e a = absurd (true≢false (sym e))
+  may_resolve Ended t m e a = a
+  may_resolve Resolved t m e a = absurd (true≢false (sym e))
+
+  kept_true : (t : Told) (m : Model) → Kept t m → AlwaysTrue member m
+  kept_true t m k =
+      record {
+        short = omega (arith, ap length k.note, k.short);
+        few = omega (arith, ap length k.links, k.few);
+        lawful = subst (λ s. LawfulEvents s (held m)) (sym k.note) (lawful-at m.phase t m k.at);
+        fits = fits-at m.phase t m k.short k.few k.at;
+        read = λ e. subst (λ s. FullyRead member s (held m)) (sym k.note) (read_at m.phase t m k.at (over_told m.phase t m e k.at));
+        ended = λ e. let a = may_resolve m.phase t m e k.at in (
+          a.holds ∙ ap (ended_events member) (sym k.note),
+          ap (λ es. marked_in_turn es 0 m.links) a.holds ∙ ap (marked_in_turn (ended_events member t.note) 0) k.links ∙ a.in_turn,
+        );
+        resolved = λ e. subst (λ s. FullyResolved member s m.links (held m)) (sym k.note)
+            (subst (λ ls. FullyResolved member t.note ls (held m)) (sym k.links) (resolved-at m.phase t m k.at (resolved_told m.phase t m e k.at)));
+      }
 
   new-kept : Kept nothing new
   new-kept = record { note = refl; short = omega arith; links = refl; few = omega arith; at = record { ended = refl; resolved = refl; links = refl; reached = reached_first member [] } }
@@ -234,17 +273,28 @@ module _ (member : ℕ → Bool) (finds : FindsTheLinks) where
       let k = after_kept cs nothing new new-kept in
       record { answered = refl; lawful = lawful-at m.phase t m k.at; fits = fits-at m.phase t m k.short k.few k.at; read = read_at m.phase t m k.at; resolved = resolved-at m.phase t m k.at }
 
-  -- ---- an end that is done
+  -- ---- readers to which calls have led
 
-  ended_holds : (t : Told) (m : Model) (allowance : ℕ) → Kept t m → is_empty m.phase ≡ false → is_over m.phase ≡ false → (run member End allowance m.machine).done ≡ true → joined (run member End allowance m.machine).after.events ≡ ended_events member m.machine.note
-  ended_holds t m allowance k some on done =
-      reached_end member t.note (finds member t.note) allowance m.machine (may_end m.phase t m some on k.at).reached done
-      ∙ ap (ended_events member) (sym k.note)
+  reachable_kept : (m : Model) → Reachable member m → (t : Told) × Kept t m
+  reachable_kept m r =
+      let t = told nothing r.calls (answers member new r.calls) in
+      (t, subst (Kept t) (sym r.led) (after_kept r.calls nothing new new-kept))
 
-  -- where m is a reader after these calls
-  module _ (m : Model) (calls : List Call) (is : m ≡ after member new calls) where
-    kept_then : Kept (told nothing calls (answers member new calls)) m
-    kept_then = subst (Kept (told nothing calls (answers member new calls))) (sym is) (after_kept calls nothing new new-kept)
+  pub reachable_true : (m : Model) → Reachable member m → AlwaysTrue member m
+  reachable_true m r =
+      let k = reachable_kept m r in
+      kept_true k.0 m k.1
 
-    pub end_leaves : (allowance : ℕ) → is_empty m.phase ≡ false → is_over m.phase ≡ false → (run member End allowance m.machine).done ≡ true → joined (run member End allowance m.machine).after.events ≡ ended_events member m.machine.note
-    end_leaves allowance some on done = ended_holds (told nothing calls (answers member new calls)) m allowance kept_then some on done
+  module _ (m : Model) (r : Reachable member m) (some : is_empty m.phase ≡ false) (on : is_over m.phase ≡ false) where
+    -- while a note is read, the machine is as every step keeps it
+    pub reading_sound : Sound m.machine.note (settled m.machine)
+    reading_sound =
+        let k = reachable_kept m r in
+        subst (λ s. Sound s (settled m.machine)) (sym k.1.note) (settled_sound k.0.note (reached_sound member (may_end m.phase k.0 m some on k.1.at).reached))
+
+    -- an end that is done leaves what the rules find
+    pub end_leaves : (allowance : ℕ) → (run member End allowance m.machine).done ≡ true → joined (run member End allowance m.machine).after.events ≡ ended_events member m.machine.note
+    end_leaves allowance done =
+        let k = reachable_kept m r in
+        reached_end member k.0.note (finds member k.0.note) allowance m.machine (may_end m.phase k.0 m some on k.1.at).reached done
+        ∙ ap (ended_events member) (sym k.1.note)

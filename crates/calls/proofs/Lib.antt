@@ -16,6 +16,7 @@ pub mod Reached
 pub mod Checks
 pub mod EveryMoment
 pub mod Replays
+pub mod Reaching
 pub mod Proved
 pub mod Marks
 pub mod Computed

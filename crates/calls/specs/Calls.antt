@@ -23,6 +23,9 @@ pub record Model : Type 0 where
   pub machine : Machine
   pub links : List MarkedRun
 
+abbrev pub model : Phase → ℕ → Bool → Machine → List MarkedRun → Model
+model phase mark paused machine links = record { phase = phase; mark = mark; paused = paused; machine = machine; links = links }
+
 abbrev pub new : Model
 new = record { phase = Empty; mark = 0; paused = false; machine = beginning []; links = [] }
 

@@ -7,10 +7,11 @@ use Rattle.calls.specs.declared.links.MarkedRun.{MarkedRun}
 use Rattle.calls.specs.declared.scripts.Call.{Call}
 use Rattle.calls.specs.declared.scripts.Call.TheVariants.{Load, Push, End, Link, Resolve, Clear}
 use Rattle.machine.specs.declared.runs.Ran.{Ran}
-use Rattle.calls.specs.Calls.{Model, new}
+use Rattle.calls.specs.Calls.{Model, new, is_over}
 use Rattle.calls.specs.EventLists.{LawfulEvents}
 use Rattle.calls.specs.Claims.{FullyRead, FullyResolved}
-use Rattle.calls.specs.Steps.{held, most_events, run_of, Answer, step}
+use Rattle.calls.specs.Links.{marked_in_turn, ended_events}
+use Rattle.calls.specs.Steps.{held, is_ended, is_resolved, most_events, most_links, run_of, Answer, step}
 
 -- the reader after the calls, and their answers
 abbrev pub after : (ℕ → Bool) → Model → List Call → Model
@@ -20,6 +21,21 @@ after member m (c ∷ cs) = after member (step member m c).0 cs
 abbrev pub answers : (ℕ → Bool) → Model → List Call → List Answer
 answers member m [] = []
 answers member m (c ∷ cs) = (step member m c).1 ∷ answers member (step member m c).0 cs
+
+-- a reader to which some list of calls has led, from new
+pub record Reachable (member : ℕ → Bool) (m : Model) : Type 0 where
+  pub calls : List Call
+  pub led : m ≡ after member new calls
+
+-- what is true of every reader, whatever calls have led to it
+pub record AlwaysTrue (member : ℕ → Bool) (m : Model) : Type 0 where
+  pub short : length m.machine.note ≤ 1024
+  pub few : length m.links ≤ most_links
+  pub lawful : LawfulEvents m.machine.note (held m)
+  pub fits : length (held m) ≤ most_events
+  pub read : is_over m.phase ≡ true → FullyRead member m.machine.note (held m)
+  pub ended : is_ended m.phase ≡ true → (held m ≡ ended_events member m.machine.note) × (marked_in_turn (held m) 0 m.links ≡ true)
+  pub resolved : is_resolved m.phase ≡ true → FullyResolved member m.machine.note m.links (held m)
 
 -- ---- what calls and answers tell, and nothing else does
 

@@ -28,6 +28,14 @@ is_ended Ending = false
 is_ended Ended = true
 is_ended Resolved = false
 
+-- links and mail were resolved
+abbrev pub is_resolved : Phase → Bool
+is_resolved Empty = false
+is_resolved Loaded = false
+is_resolved Ending = false
+is_resolved Ended = false
+is_resolved Resolved = true
+
 abbrev pub most_links : ℕ
 most_links = 64
 

@@ -65,10 +65,9 @@ ended_now (Err refusal) = false
 abbrev pub RefusalsChangeNothing : Type 0
 RefusalsChangeNothing = (member : ℕ → Bool) (m : Model) (c : Call) (refusal : Fault) → (step member m c).1 ≡ Err refusal → (step member m c).0 ≡ m
 
--- an end that answers done leaves the events of the segments of the note, and no others: of a reader that was new, whatever calls
--- have led to m since
+-- an end that answers done leaves the events of the segments of the note, and no others: of any reader to which calls may lead
 abbrev pub EndFinds : (ℕ → Bool) → Model → Model × Result Ran Fault → Type 0
-EndFinds member m r = (calls : List Call) → m ≡ after member new calls → ended_now r.1 ≡ true → held r.0 ≡ ended_events member m.machine.note
+EndFinds member m r = ended_now r.1 ≡ true → held r.0 ≡ ended_events member m.machine.note
 
 -- every list of calls on a new reader
 abbrev pub ClaimHolds : Type 0

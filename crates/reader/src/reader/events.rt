@@ -5,9 +5,10 @@ ghost use Rattle.reader.specs.View.{events_held, event_answer};
 
 use super::Reader;
 use machine::Event;
+use punctuation::sets::PunctuationSet;
 use text::Fault;
 
-impl<S> Reader<S> {
+impl<S: PunctuationSet> Reader<S> {
     pub fn event_count(&self) -> usize
         ensures { result ≡ length (events_held self.now) }
     {

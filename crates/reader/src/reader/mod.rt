@@ -1,9 +1,11 @@
 // What a reader holds: docs/ENGINE.md, section 2. Its calls are in the modules below.
+ghost use Rattle.calls.specs.Calls.{model};
+ghost use Rattle.calls.specs.Moments.{Reachable};
 ghost use Rattle.tokenizer.specs.View.{machine};
-ghost use Rattle.reader.specs.Kept.{Kept};
 
 use calls::{MarkedRun, Phase};
 use engine::Engine;
+use punctuation::sets::PunctuationSet;
 use tokenizer::event_table::LINKS_ROOM;
 use tokenizer::table::Table;
 
@@ -14,7 +16,7 @@ mod reading;
 // One note at a time, read with the reader's punctuation set.
 // Kept: `mark` and `paused` are no fields of Phase::Loaded, since the definition (calls/specs/Calls) tells them in every phase.
 #[derive(Drop)]
-pub struct Reader<S> {
+pub struct Reader<S: PunctuationSet> {
     engine: Engine<S>,
     phase: Phase,
     // the last `to` that push accepted
@@ -22,5 +24,6 @@ pub struct Reader<S> {
     // whether the last accepted push paused
     paused: bool,
     links: Table<MarkedRun, LINKS_ROOM>,
-    ghost kept: { ∥ Kept phase (machine engine.tokenizer) ∥₁ },
+    // some list of calls has led to it from new
+    ghost reachable: { ∥ Reachable (S.member engine.set) (model phase mark paused (machine engine.tokenizer) links.items.items) ∥₁ },
 }

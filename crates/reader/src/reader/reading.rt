@@ -3,7 +3,7 @@
 ghost use Rattle.std.specs.Prelude.{◌≡◌, OnErr};
 ghost use Rattle.calls.specs.Calls.{new, load, push, end, unread};
 ghost use Rattle.calls.specs.Theorems.{EndFinds};
-ghost use Rattle.reader.specs.View.{view};
+ghost use Rattle.reader.specs.View.{meaning_of, set_of, view};
 
 use super::Reader;
 use calls::Phase;
@@ -17,7 +17,7 @@ impl<S: PunctuationSet> Reader<S> {
     // Takes a copy of a note. Refused: 1 a note that is too long; 2 unless the reader is empty.
     pub fn load(&mut self, note: &[u8]) -> Result<(), Fault>
         ensures answer { (view self.new, result) ≡ load (view self.old) note.now }
-        ensures set { self.new.engine.set ≡ self.old.engine.set }
+        ensures set { set_of self.new ≡ set_of self.old }
         ensures refused { OnErr result (self.new ≡ self.old) }
     {
         check_length(note)?;
@@ -35,8 +35,8 @@ impl<S: PunctuationSet> Reader<S> {
     // Reads the bytes before `to`, with at most so many state calls. Refused: 3 an empty reader; 4 unless loaded; 5 an allowance
     // of 0; 6 a `to` below the mark or above the length.
     pub fn push(&mut self, to: usize, allowance: u64) -> Result<Ran, Fault>
-        ensures answer { (view self.new, result) ≡ push (S.member self.old.engine.set) (view self.old) to allowance }
-        ensures meaning_stays { S.member self.new.engine.set ≡ S.member self.old.engine.set }
+        ensures answer { (view self.new, result) ≡ push (meaning_of self.old) (view self.old) to allowance }
+        ensures meaning_stays { meaning_of self.new ≡ meaning_of self.old }
         ensures refused { OnErr result (self.new ≡ self.old) }
     {
         if self.phase.is_empty() {
@@ -61,9 +61,9 @@ impl<S: PunctuationSet> Reader<S> {
     // Refused: 3 an empty reader; 4 where the end is done; 5 an allowance of 0; 7, where the end begins, if the mark is below the
     // length or the last push paused.
     pub fn end(&mut self, allowance: u64) -> Result<Ran, Fault>
-        ensures answer { (view self.new, result) ≡ end (S.member self.old.engine.set) (view self.old) allowance }
-        ensures finds { EndFinds (S.member self.old.engine.set) (view self.old) (view self.new, result) }
-        ensures meaning_stays { S.member self.new.engine.set ≡ S.member self.old.engine.set }
+        ensures answer { (view self.new, result) ≡ end (meaning_of self.old) (view self.old) allowance }
+        ensures finds { EndFinds (meaning_of self.old) (view self.old) (view self.new, result) }
+        ensures meaning_stays { meaning_of self.new ≡ meaning_of self.old }
         ensures refused { OnErr result (self.new ≡ self.old) }
     {
         if self.phase.is_empty() {
@@ -98,7 +98,7 @@ impl<S: PunctuationSet> Reader<S> {
     // As new.
     pub fn clear(&mut self)
         ensures new { view self.new ≡ new }
-        ensures set { self.new.engine.set ≡ self.old.engine.set }
+        ensures set { set_of self.new ≡ set_of self.old }
     {
         self.engine.tokenizer.restart(&[]);
         self.phase = Phase::Empty;
