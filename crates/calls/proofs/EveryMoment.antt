@@ -149,18 +149,23 @@ module _ (member : ℕ → Bool) (finds : FindsTheLinks) where
   may_resolve Ended t m e a = a
   may_resolve Resolved t m e a = absurd (true≢false (sym e))
 
+  in_turn-at : (p : Phase) (t : Told) (m : Model) → At p t m → marked_in_turn (ended_events member t.note) 0 t.links ≡ true
+  in_turn-at Empty t m a = ap (marked_in_turn (ended_events member t.note) 0) a.links
+  in_turn-at Loaded t m a = ap (marked_in_turn (ended_events member t.note) 0) a.links
+  in_turn-at Ending t m a = ap (marked_in_turn (ended_events member t.note) 0) a.links
+  in_turn-at Ended t m a = a.in_turn
+  in_turn-at Resolved t m a = a.in_turn
+
   kept_true : (t : Told) (m : Model) → Kept t m → AlwaysTrue member m
   kept_true t m k =
       record {
         short = omega (arith, ap length k.note, k.short);
         few = omega (arith, ap length k.links, k.few);
+        in_turn = ap (λ s. marked_in_turn (ended_events member s) 0 m.links) k.note ∙ ap (marked_in_turn (ended_events member t.note) 0) k.links ∙ in_turn-at m.phase t m k.at;
         lawful = subst (λ s. LawfulEvents s (held m)) (sym k.note) (lawful-at m.phase t m k.at);
         fits = fits-at m.phase t m k.short k.few k.at;
         read = λ e. subst (λ s. FullyRead member s (held m)) (sym k.note) (read_at m.phase t m k.at (over_told m.phase t m e k.at));
-        ended = λ e. let a = may_resolve m.phase t m e k.at in (
-          a.holds ∙ ap (ended_events member) (sym k.note),
-          ap (λ es. marked_in_turn es 0 m.links) a.holds ∙ ap (marked_in_turn (ended_events member t.note) 0) k.links ∙ a.in_turn,
-        );
+        ended = λ e. (may_resolve m.phase t m e k.at).holds ∙ ap (ended_events member) (sym k.note);
         resolved = λ e. subst (λ s. FullyResolved member s m.links (held m)) (sym k.note)
             (subst (λ ls. FullyResolved member t.note ls (held m)) (sym k.links) (resolved-at m.phase t m k.at (resolved_told m.phase t m e k.at)));
       }

@@ -30,11 +30,13 @@ pub record Reachable (member : ℕ → Bool) (m : Model) : Type 0 where
 -- what is true of every reader, whatever calls have led to it
 pub record AlwaysTrue (member : ℕ → Bool) (m : Model) : Type 0 where
   pub short : length m.machine.note ≤ 1024
+  -- the links were marked in the events of the note when it had been read to its end
   pub few : length m.links ≤ most_links
+  pub in_turn : marked_in_turn (ended_events member m.machine.note) 0 m.links ≡ true
   pub lawful : LawfulEvents m.machine.note (held m)
   pub fits : length (held m) ≤ most_events
   pub read : is_over m.phase ≡ true → FullyRead member m.machine.note (held m)
-  pub ended : is_ended m.phase ≡ true → (held m ≡ ended_events member m.machine.note) × (marked_in_turn (held m) 0 m.links ≡ true)
+  pub ended : is_ended m.phase ≡ true → held m ≡ ended_events member m.machine.note
   pub resolved : is_resolved m.phase ≡ true → FullyResolved member m.machine.note m.links (held m)
 
 -- ---- what calls and answers tell, and nothing else does

@@ -1,7 +1,7 @@
 -- Each call leads from a reader to which calls have led to another such reader.
 -- Assumes nothing.
-use Rattle.std.proofs.Common.{◌≡◌, ℕ, ◌≤◌, Bool, true, false, cond, not, ◌||◌, ltb, Bor, List, [], length, Ok, Err, Result, is_ok, refl, sym, ap, ◌∙◌, subst}
-use Rattle.std.proofs.lemmas.Bool.{ne_eqb, le-ltb, true≢false}
+use Rattle.std.proofs.Common.{◌≡◌, ℕ, ◌<◌, ◌≤◌, Bool, true, false, cond, not, ◌||◌, ltb, Bor, List, [], ◌∷◌, ◌++◌, length, Ok, Err, Result, is_ok, refl, sym, ap, ◌∙◌, subst}
+use Rattle.std.proofs.lemmas.Bool.{ne_eqb, le-ltb, lt-leb, true≢false}
 use mathlib.Core.Logic.{∥∥₁_map, ∥∥₁_elim}
 use Rattle.std.proofs.Math.Nat.{ℕ_set}
 use Rattle.std.proofs.Math.Bool.{Bool-set}
@@ -16,11 +16,12 @@ use Rattle.calls.specs.declared.phases.Phase.{Phase}
 use Rattle.calls.specs.declared.phases.Phase.TheVariants.{Empty, Loaded, Ending, Ended, Resolved}
 use Rattle.calls.specs.declared.scripts.Call.TheVariants as call
 use Rattle.calls.specs.Calls.{Model, model, is_empty, is_loaded, is_over, pushed, ended, unread}
-use Rattle.calls.specs.Moments.{Reachable}
+use Rattle.calls.specs.Moments.{Reachable, AlwaysTrue}
 use Rattle.calls.proofs.Checks.{Passed, checks}
-use Rattle.calls.proofs.EveryMoment.{reading_sound, end_leaves}
-use Rattle.calls.proofs.Reaching.{reachable_loaded, reachable_pushed, reachable_ended}
-use Rattle.calls.specs.Links.{ended_events}
+use Rattle.calls.proofs.EveryMoment.{reachable_true, reading_sound, end_leaves}
+use Rattle.calls.proofs.Reaching.{reachable_loaded, reachable_pushed, reachable_ended, reachable_linked}
+use Rattle.calls.specs.Links.{beyond, markable, ended_events}
+use Rattle.calls.specs.Steps.{held, is_ended}
 use Rattle.machine.specs.declared.events.Event.{Event}
 use Rattle.machine.specs.declared.cursors.Until.TheVariants.{Mark, End}
 use Rattle.machine.specs.Invariant.{Sound}
@@ -95,3 +96,12 @@ module _ (member member' : ℕ → Bool) (m : Model) (h : ∥ Reachable member m
   -- once it is done, Data is joined
   pub led_by_joining : (allowance : ℕ) (k : Machine) → k ≡ with_tables (joined o.after.events) o.after.names o.after → o.done ≡ true → o ≡ run member End allowance m.machine → is_over m.phase ≡ false → (allowance ≡ 0 → ⊥) → unread m ≡ false → ∥ Reachable member' (model Ended m.mark m.paused k m.links) ∥₁
   led_by_joining allowance k j e is on allowed all = subst (λ x. ∥ Reachable member' (model Ended m.mark m.paused x m.links) ∥₁) (sym j) (led_by_end allowance true e is on allowed all)
+
+-- what is true of every reader is true of this one
+pub always : (member : ℕ → Bool) (m : Model) → ∥ Reachable member m ∥₁ → ∥ AlwaysTrue member m ∥₁
+always member m h = ∥∥₁_map h (reachable_true member finds_links m)
+
+pub led_by_link : (member : ℕ → Bool) (m : Model) (l : MarkedRun) (ls : List MarkedRun) → ls ≡ m.links ++ l ∷ [] → is_empty m.phase ≡ false → is_ended m.phase ≡ true → markable (held m) (beyond 0 m.links) l ≡ true → length m.links < 64 → ∥ Reachable member m ∥₁ → ∥ Reachable member (model m.phase m.mark m.paused m.machine ls) ∥₁
+led_by_link member m l ls is some over may room h =
+    let passed : Passed (checks m (call.Link l.first l.last)) = (some, (ap not over, (ap not may, (lt-leb 64 (length m.links) room, tt)))) in
+    ∥∥₁_map h (λ r. subst (λ x. Reachable member (model m.phase m.mark m.paused m.machine x)) (sym is) (reachable_linked member m r l.first l.last passed))

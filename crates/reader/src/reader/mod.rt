@@ -10,6 +10,7 @@ use tokenizer::event_table::LINKS_ROOM;
 use tokenizer::table::Table;
 
 mod events;
+mod linking;
 mod making;
 mod reading;
 
