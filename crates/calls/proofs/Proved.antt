@@ -1,11 +1,9 @@
 -- The theorems, from their parts.
 -- Assumes nothing.
 use Rattle.std.proofs.Common.{arith}
-use Rattle.findings.specs.Findings.{FindsTheLinks}
-use Rattle.calls.specs.Theorems.{SegmentsAreRead, ResolvingResolves, NothingElseIsClaimed, ListsFit, TwoAByteAndALink, ClaimHolds}
+use Rattle.calls.specs.Theorems.{SegmentsAreRead, ResolvingResolves, NothingElseIsClaimed, ListsFit, TwoAByteAndALink}
 use Rattle.calls.proofs.Ended.{ended-lawful, ended-read}
 use Rattle.calls.proofs.NothingElse.{exactly_segments, exactly_resolved}
-use Rattle.calls.proofs.Replays.{replayed}
 use Rattle.calls.proofs.Resolves.{resolved-lawful, resolved_read, resolved-resolved}
 use Rattle.calls.proofs.Lengths.{ended-room, resolved-room}
 
@@ -27,6 +25,3 @@ lists_fit =
 
 pub two_a_byte_and_a_link : TwoAByteAndALink
 two_a_byte_and_a_link = resolved-room
-
-pub claim_holds : FindsTheLinks → ClaimHolds
-claim_holds finds member calls = replayed member finds calls

@@ -6,7 +6,7 @@ use Rattle.std.proofs.lemmas.List.{take_more}
 use Rattle.findings.specs.Findings.{FindsTheLinks}
 use Rattle.calls.specs.declared.scripts.Call.{Call}
 use Rattle.calls.specs.Calls.{Model, new}
-use Rattle.calls.specs.Moments.{after, answers, Moment, Always, Replayed, Watched}
+use Rattle.calls.specs.Moments.{after, answers, Moment, Looks, Watched}
 use Rattle.calls.specs.Steps.{held, Answer, step}
 use Rattle.calls.proofs.EveryMoment.{moment}
 
@@ -52,77 +52,54 @@ module _ (member : ℕ → Bool) where
   seen_at (suc k) [] m d h = absurd (omega arith)
   seen_at (suc k) (c ∷ cs) m d h = seen_at k cs (step member m c).0 d (omega arith)
 
-  -- ---- a loop that makes the calls, after k of them
+  -- ---- a loop that makes the calls, and has a watcher look at the reader before the first and after each; after k of them
 
-  pub record Made (calls : List Call) (k : ℕ) (got : List Answer) (m : Model) : Type 0 where
+  pub record Made {W : Type 0} (saw : W → Model → W → Type 0) (calls : List Call) (k : ℕ) (got : List Answer) (before after_ : W) (m : Model) : Type 0 where
     pub reader : m ≡ after member new (take k calls)
     pub answered : got ≡ answers member new (take k calls)
+    pub looked : Looks saw before (new ∷ later new (take k calls)) after_
 
-  pub made_none : (calls : List Call) → Made calls 0 [] new
-  made_none calls = record { reader = refl; answered = refl }
+  looks_push : {W : Type 0} (saw : W → Model → W → Type 0) (ms : List Model) (m : Model) (w v u : W) → Looks saw w ms v → saw v m u → Looks saw w (ms ++ m ∷ []) u
+  looks_push saw [] m w v u h s = (u, subst (λ x. saw x m u) (sym h) s, refl)
+  looks_push saw (x ∷ ms) m w v u h s = (h.0, h.1, looks_push saw ms m h.0 v u h.2 s)
+
+  pub made_none : {W : Type 0} (saw : W → Model → W → Type 0) (calls : List Call) (got : List Answer) (before w : W) (m : Model) → m ≡ new → got ≡ [] → saw before m w → Made saw calls 0 got before w m
+  unfolding later
+  made_none saw calls got before w m is none s = record { reader = is; answered = none; looked = (w, subst (λ x. saw before x w) is s, refl) }
 
   -- the set may have changed, but not in what it means
-  pub made_more : (meant : ℕ → Bool) (calls : List Call) (k : ℕ) (got got' : List Answer) (m m' : Model) (d : Call) (a : Answer) → k < length calls → Made calls k got m → meant ≡ member → ◌≡◌ {A = Model × Answer} (m', a) (step meant m (get_or calls k d)) → got' ≡ got ++ a ∷ [] → Made calls (k + 1) got' m'
-  made_more meant calls k got got' m m' d a lt so same e pushed =
+  pub made_more : {W : Type 0} (saw : W → Model → W → Type 0) (meant : ℕ → Bool) (calls : List Call) (k : ℕ) (got got' : List Answer) (before w w' : W) (m m' : Model) (d : Call) (a : Answer) → k < length calls → Made saw calls k got before w m → meant ≡ member → ◌≡◌ {A = Model × Answer} (m', a) (step meant m (get_or calls k d)) → got' ≡ got ++ a ∷ [] → saw w m' w' → Made saw calls (k + 1) got' before w' m'
+  unfolding later
+  made_more saw meant calls k got got' before w w' m m' d a lt so same e pushed look =
       let c : Call = get_or calls k d in
       let front : take (k + 1) calls ≡ take k calls ++ c ∷ [] = take_more calls k d lt in
       let does : ◌≡◌ {A = Model × Answer} (m', a) (step member (after member new (take k calls)) c) = e ∙ (λ i. step (same i) (so.reader i) c) in
       record {
         reader = ap (λ o. o.0) does ∙ sym (after_push (take k calls) c new) ∙ ap (after member new) (sym front);
         answered = pushed ∙ (λ i. so.answered i ++ (does i).1 ∷ []) ∙ sym (answers_push (take k calls) c new) ∙ ap (answers member new) (sym front);
-      }
-
-  -- ---- a loop that also looks at the reader before the first call and after each
-
-  pub record Seen (first : Model) (calls : List Call) (k : ℕ) (old got : List Answer) (before seen : List Model) (m : Model) : Type 0 where
-    pub reader : m ≡ after member first (take k calls)
-    pub answered : got ≡ old ++ answers member first (take k calls)
-    pub looked : seen ≡ before ++ later first (take k calls)
-
-  pub seen_none : (first : Model) (calls : List Call) (old : List Answer) (before : List Model) → Seen first calls 0 old old before before first
-  unfolding later
-  seen_none first calls old before = record { reader = refl; answered = sym (append-nil old); looked = sym (append-nil before) }
-
-  pub seen_more : (meant : ℕ → Bool) (first : Model) (calls : List Call) (k : ℕ) (old got got' : List Answer) (before seen seen' : List Model) (m m' : Model) (d : Call) (a : Answer) → k < length calls → Seen first calls k old got before seen m → meant ≡ member → ◌≡◌ {A = Model × Answer} (m', a) (step meant m (get_or calls k d)) → got' ≡ got ++ a ∷ [] → seen' ≡ seen ++ m' ∷ [] → Seen first calls (k + 1) old got' before seen' m'
-  seen_more meant first calls k old got got' before seen seen' m m' d a lt so same e pushed looked =
-      let c : Call = get_or calls k d in
-      let front : take (k + 1) calls ≡ take k calls ++ c ∷ [] = take_more calls k d lt in
-      let does : ◌≡◌ {A = Model × Answer} (m', a) (step member (after member first (take k calls)) c) = e ∙ (λ i. step (same i) (so.reader i) c) in
-      record {
-        reader = ap (λ o. o.0) does ∙ sym (after_push (take k calls) c first) ∙ ap (after member first) (sym front);
-        answered = pushed ∙ (λ i. so.answered i ++ (does i).1 ∷ []) ∙ append_assoc old _ _ ∙ ap (λ l. old ++ l) (sym (answers_push (take k calls) c first) ∙ ap (answers member first) (sym front));
-        looked = looked ∙ (λ i. so.looked i ++ (does i).0 ∷ []) ∙ append_assoc before _ _ ∙ ap (λ l. before ++ l) (sym (later_push (take k calls) c first) ∙ ap (later first) (sym front));
+        looked =
+            subst (λ ms. Looks saw before (new ∷ ms) w') (ap (λ x. later new (take k calls) ++ x ∷ []) (ap (λ o. o.0) does) ∙ sym (later_push (take k calls) c new) ∙ ap (later new) (sym front))
+            (looks_push saw (new ∷ later new (take k calls)) m' before w w' so.looked look);
       }
 
   -- ---- and so the claim
 
   module _ (finds : FindsTheLinks) where
-    pub always : (calls : List Call) (got : List Answer) → got ≡ answers member new calls → Always member calls got (λ k. held (after member new (take k calls)))
-    always calls got e k le =
-        subst (λ l. Moment member (take k calls) l (held (after member new (take k calls)))) (sym (ap (take k) e ∙ answers-take k calls new)) (moment member finds (take k calls))
+    always : (calls : List Call) (k : ℕ) → k ≤ length calls → Moment member (take k calls) (take k (answers member new calls)) (held (after member new (take k calls)))
+    always calls k le =
+        subst (λ l. Moment member (take k calls) l (held (after member new (take k calls)))) (sym (answers-take k calls new)) (moment member finds (take k calls))
 
-    pub replayed : (calls : List Call) → Replayed member calls (answers member new calls) (after member new calls)
-    replayed calls = record { always = always calls (answers member new calls) refl; last_moment = refl; each_answered = answers-length calls new }
-
-    -- the set that the reader was given means what the set of the loop means
-    pub made_all : (meant : ℕ → Bool) (calls : List Call) (k : ℕ) (got : List Answer) (m : Model) → member ≡ meant → k ≡ length calls → Made calls k got m → Replayed meant calls got m
-    made_all meant calls k got m same e so =
+    pub made_all : {W : Type 0} (saw : W → Model → W → Type 0) (calls : List Call) (k : ℕ) (got : List Answer) (before w : W) (m : Model) → k ≡ length calls → Made saw calls k got before w m → Watched saw member calls got before w m
+    made_all saw calls k got before w m e so =
         let whole : take k calls ≡ calls = ap (λ n. take n calls) e ∙ take-length calls in
         let told : got ≡ answers member new calls = so.answered ∙ ap (answers member new) whole in
-        subst (λ n. Replayed n calls got m) same
-        (record { always = always calls got told; last_moment = so.reader ∙ ap (after member new) whole; each_answered = ap length told ∙ answers-length calls new })
-
-    pub seen_all : (first : Model) (calls : List Call) (k : ℕ) (old got : List Answer) (before looked seen : List Model) (m : Model) → k ≡ length calls → looked ≡ before ++ first ∷ [] → first ≡ new → Seen first calls k old got looked seen m → Watched member calls old got before seen m
-    seen_all first calls k old got before looked seen m e look is so =
-        let whole : take k calls ≡ calls = ap (λ n. take n calls) e ∙ take-length calls in
-        let at : (j : ℕ) → j ≤ length calls → get_or (first ∷ later first calls) j new ≡ after member new (take j calls) = λ j h. seen_at j calls first new h ∙ ap (λ x. after member x (take j calls)) is in
         record {
-          got = answers member new calls;
-          moments = first ∷ later first calls;
-          got_them = so.answered ∙ (λ i. old ++ answers member (is i) (whole i));
-          saw_them = so.looked ∙ (λ i. look i ++ later first (whole i)) ∙ append_assoc before (first ∷ []) (later first calls);
-          each_answered = answers-length calls new;
-          each_seen = ap suc (later_length calls first) ∙ omega arith;
-          always = λ j h. subst (λ x. Moment member (take j calls) (take j (answers member new calls)) (held x)) (sym (at j h)) (always calls (answers member new calls) refl j h);
-          last_moment = seen_at (length calls) calls first new (omega arith) ∙ ap (after member first) (take-length calls) ∙ sym (so.reader ∙ ap (after member first) whole);
+          moments = new ∷ later new calls;
+          each_answered = ap length told ∙ answers-length calls new;
+          each_shown = ap suc (later_length calls new) ∙ omega arith;
+          shown = subst (λ cs. Looks saw before (new ∷ later new cs) w) whole so.looked;
+          always = λ j le.
+              subst (λ l. Moment member (take j calls) (take j l) (held (get_or (new ∷ later new calls) j new))) (sym told)
+              (subst (λ x. Moment member (take j calls) (take j (answers member new calls)) (held x)) (sym (seen_at j calls new new le)) (always calls j le));
+          last_moment = seen_at (length calls) calls new new (omega arith) ∙ ap (after member new) (take-length calls) ∙ sym (so.reader ∙ ap (after member new) whole);
         }

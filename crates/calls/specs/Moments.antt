@@ -96,20 +96,19 @@ pub record Moment (member : ℕ → Bool) (calls : List Call) (got : List Answer
 abbrev pub Always : (ℕ → Bool) → List Call → List Answer → (ℕ → List Event) → Type 0
 Always member calls got events = (k : ℕ) → k ≤ length calls → Moment member (take k calls) (take k got) (events k)
 
--- calls made on a new reader, the answers that they got, and the reader then
-pub record Replayed (member : ℕ → Bool) (calls : List Call) (got : List Answer) (last : Model) : Type 0 where
-  pub always : Always member calls got (λ k. held (after member new (take k calls)))
-  pub last_moment : last ≡ after member new calls
-  pub each_answered : length got ≡ length calls
+-- ---- and who watches
 
--- the same of a reader that was looked at before the first call and after each: to the answers of before come `got`, to what was
--- seen before come the readers of all moments, and each of them holds what its moment says
-pub record Watched (member : ℕ → Bool) (calls : List Call) (answers_before answers_after : List Answer) (seen_before seen_after : List Model) (last : Model) : Type 0 where
-  pub got : List Answer
+-- a watcher w looked at readers which were these, one after another, and is w' then; saw tells what one look does to a watcher
+abbrev pub Looks : {W : Type 0} → (W → Model → W → Type 0) → W → List Model → W → Type 0
+Looks saw w [] w' = w ≡ w'
+Looks {W} saw w (m ∷ ms) w' = (v : W) × saw w m v × Looks saw v ms w'
+
+-- calls made on a new reader, and the answers that they got. A watcher was shown the reader before the first call and after each,
+-- and at each of these moments it held what is claimed; so it does at the end
+pub record Watched {W : Type 0} (saw : W → Model → W → Type 0) (member : ℕ → Bool) (calls : List Call) (got : List Answer) (before after : W) (last : Model) : Type 0 where
   pub moments : List Model
-  pub got_them : answers_after ≡ answers_before ++ got
-  pub saw_them : seen_after ≡ seen_before ++ moments
   pub each_answered : length got ≡ length calls
-  pub each_seen : length moments ≡ length calls + 1
+  pub each_shown : length moments ≡ length calls + 1
+  pub shown : Looks saw before moments after
   pub always : Always member calls got (λ k. held (slice_index_or moments k new))
   pub last_moment : slice_index_or moments (length calls) new ≡ last

@@ -6,11 +6,10 @@ use Rattle.machine.specs.declared.events.Event.{Event}
 use Rattle.machine.specs.declared.runs.Ran.{Ran}
 use Rattle.calls.specs.declared.links.MarkedRun.{MarkedRun}
 use Rattle.calls.specs.declared.scripts.Call.{Call}
-use Rattle.calls.specs.Calls.{Model, new}
+use Rattle.calls.specs.Calls.{Model}
 use Rattle.calls.specs.Claims.{FullyRead, FullyResolved}
 use Rattle.calls.specs.EventLists.{is_link, is_mail_address, spans, with_name, LawfulEvents}
 use Rattle.calls.specs.Links.{marked_in_turn, ended_events, resolved_events}
-use Rattle.calls.specs.Moments.{after, answers, Replayed}
 use Rattle.calls.specs.Steps.{held, most_links, step}
 
 -- ---- of event lists
@@ -68,7 +67,3 @@ RefusalsChangeNothing = (member : ℕ → Bool) (m : Model) (c : Call) (refusal 
 -- an end that answers done leaves the events of the segments of the note, and no others: of any reader to which calls may lead
 abbrev pub EndFinds : (ℕ → Bool) → Model → Model × Result Ran Fault → Type 0
 EndFinds member m r = ended_now r.1 ≡ true → held r.0 ≡ ended_events member m.machine.note
-
--- every list of calls on a new reader
-abbrev pub ClaimHolds : Type 0
-ClaimHolds = (member : ℕ → Bool) (calls : List Call) → Replayed member calls (answers member new calls) (after member new calls)

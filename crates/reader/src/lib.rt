@@ -2,5 +2,7 @@
 #![tactic(auto)]
 
 pub mod reader;
+pub mod replaying;
 
 pub use reader::Reader;
+pub use replaying::{Watcher, replay};

@@ -13,6 +13,7 @@ mod events;
 mod linking;
 mod making;
 mod reading;
+mod resolving;
 
 // One note at a time, read with the reader's punctuation set.
 // Kept: `mark` and `paused` are no fields of Phase::Loaded, since the definition (calls/specs/Calls) tells them in every phase.
