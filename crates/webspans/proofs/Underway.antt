@@ -23,11 +23,12 @@ use Rattle.findings.specs.Pieces.{segment_events}
 use Rattle.findings.proofs.FindsLinks.{finds_links}
 use Rattle.calls.specs.Calls.{Model, is_empty, is_loaded, is_over, checked, answer_of, new, loaded, load, pushed, closed, ended}
 use Rattle.calls.specs.declared.phases.Phase.TheVariants.{Loaded, Ending, Ended}
-use Rattle.reader.specs.View.{view}
+use Rattle.reader.specs.View.{meaning_of, view}
+use Rattle.punctuation.specs.declared.sets.PunctuationSet.{Ghosts}
 use Rattle.reader.specs.declared.reader.Reader.{Reader}
 use Rattle.webspans.specs.declared.lines.Answered.{Answered}
 use Rattle.webspans.specs.declared.plans.Plan.{Plan}
-use Rattle.webspans.specs.Readings.{meaning, called, next_target, ran_of, then_target, calls_from, first_calls, AllCalls, Accepts, steps_made, TakesSteps, ReadThrough}
+use Rattle.webspans.specs.Readings.{called, next_target, ran_of, then_target, calls_from, first_calls, AllCalls, Accepts, steps_made, TakesSteps, ReadThrough}
 
 -- ---- steps
 
@@ -130,15 +131,15 @@ abbrev pub Before : Plan → List ℕ → List Answered → Until → Model → 
 Before plan s calls u m = (n : ℕ) → first_calls plan s (length calls + n) ≡ calls ++ calls_from (length s) (non_zero_usize_get plan.piece) (non_zero_u64_get plan.allowance) n (Some u) m
 
 -- after these calls, the next one, to u, is accepted and goes on with the note
-pub record Underway (plan : Plan) (s : List ℕ) (calls : List Answered) (u : Until) (r : Reader RangeList) : Type 0 where
+pub record Underway {g : Ghosts RangeList} (plan : Plan) (s : List ℕ) (calls : List Answered) (u : Until) (r : Reader RangeList g) : Type 0 where
   pub before : Before plan s calls u (view r)
-  pub means : meaning r ≡ house
+  pub means : meaning_of r ≡ house
   pub accepts : Accepts u (view r)
   pub sound : Sound s (view r).machine
   pub leads : LeadsTo s (steps_made calls) (view r).machine
 
 -- a new reader takes a note that is not too long
-pub loads : (r r' : Reader RangeList) (s : List ℕ) (answer : Result (Unit {0}) Fault) → length s ≤ 1024 → view r ≡ new → ◌≡◌ {A = Model × Result (Unit {0}) Fault} (view r', answer) (load (view r) s) → view r' ≡ loaded s
+pub loads : {g : Ghosts RangeList} (r r' : Reader RangeList g) (s : List ℕ) (answer : Result (Unit {0}) Fault) → length s ≤ 1024 → view r ≡ new → ◌≡◌ {A = Model × Result (Unit {0}) Fault} (view r', answer) (load (view r) s) → view r' ≡ loaded s
 loads r r' s answer short is e =
     ap (λ (x : Model × Result (Unit {0}) Fault). x.0) (e ∙ ap (λ m. load m s) is ∙ cond-false (ltb 1024 (length s)) _ _ (le-ltb 1024 (length s) short))
 
@@ -147,7 +148,7 @@ begins-before plan s calls k none is n =
     ap (first_calls plan s) (ap (λ (cs : List Answered). length cs + n) none ∙ zero-add n)
     ∙ (λ i. sym none i ++ calls_from (length s) (non_zero_usize_get plan.piece) (non_zero_u64_get plan.allowance) n (Some (Mark (sym is i))) (loaded s))
 
-pub begins : (plan : Plan) (s : List ℕ) (calls : List Answered) (r : Reader RangeList) (n : ℕ) → calls ≡ [] → n ≡ min (length s) (non_zero_usize_get plan.piece) → meaning r ≡ house → view r ≡ loaded s → Underway plan s calls (Mark n) r
+pub begins : {g : Ghosts RangeList} (plan : Plan) (s : List ℕ) (calls : List Answered) (r : Reader RangeList g) (n : ℕ) → calls ≡ [] → n ≡ min (length s) (non_zero_usize_get plan.piece) → meaning_of r ≡ house → view r ≡ loaded s → Underway plan s calls (Mark n) r
 begins plan s calls r n none is means e = record {
   before = subst (Before plan s calls (Mark n)) (sym e) (begins-before plan s calls n none is);
   means = means;
@@ -222,8 +223,8 @@ ok_is x y e = cc
 
 -- ---- a call more
 
-module _ (plan : Plan) (s : List ℕ) (calls : List Answered) (u : Until) (r r' : Reader RangeList) (ran : Ran) (h : Underway plan s calls u r) (a : ℕ) (value : a ≡ non_zero_u64_get plan.allowance) (pos : 0 < a)
-    (e : ◌≡◌ {A = Model × Result Ran Fault} (view r', Ok ran) (called u (view r) a)) (means' : meaning r' ≡ house)
+module _ {g : Ghosts RangeList} (plan : Plan) (s : List ℕ) (calls : List Answered) (u : Until) (r r' : Reader RangeList g) (ran : Ran) (h : Underway plan s calls u r) (a : ℕ) (value : a ≡ non_zero_u64_get plan.allowance) (pos : 0 < a)
+    (e : ◌≡◌ {A = Model × Result Ran Fault} (view r', Ok ran) (called u (view r) a)) (means' : meaning_of r' ≡ house)
     (calls' : List Answered) (q : calls' ≡ calls ++ record { until = u; ran = ran } ∷ []) where
   abbrev m : Model
   m = view r

@@ -3,8 +3,7 @@
 use Rattle.std.specs.Prelude.{◌≡◌, ℕ, zero, suc, ◌+◌, ◌≤◌, min, Bool, true, false, cond, List, [], ◌∷◌, length, Some, None, Option, Ok, Err, Result, nat_lt}
 use Rattle.std.specs.NonZero.{non_zero_u64_get, non_zero_usize_get}
 use Rattle.text.specs.declared.refusals.Fault.{Fault}
-use Rattle.punctuation.specs.RangeLists.{numbers_of, range_member, house}
-use Rattle.punctuation.specs.declared.range_lists.RangeList.{RangeList}
+use Rattle.punctuation.specs.RangeLists.{house}
 use Rattle.rules.specs.Segments.{segments}
 use Rattle.machine.specs.declared.cursors.Until.{Until}
 use Rattle.machine.specs.declared.cursors.Until.TheVariants.{Mark, End}
@@ -14,13 +13,8 @@ use Rattle.findings.specs.Findings.{read}
 use Rattle.findings.specs.Pieces.{segment_events}
 use Rattle.calls.specs.Calls.{Model, loaded, is_empty, is_over, push, end, unread}
 use Rattle.calls.specs.declared.phases.Phase.TheVariants.{Loaded}
-use Rattle.reader.specs.declared.reader.Reader.{Reader}
 use Rattle.webspans.specs.declared.lines.Answered.{Answered}
 use Rattle.webspans.specs.declared.plans.Plan.{Plan}
-
--- what the set of a reader means
-abbrev pub meaning : Reader RangeList → ℕ → Bool
-meaning r = range_member (numbers_of r.engine.set.ranges.now)
 
 -- a call to a mark is a push, one to the end an end
 abbrev pub called : Until → Model → ℕ → Model × Result Ran Fault

@@ -2,8 +2,8 @@
 ghost use Rattle.std.specs.Prelude.{◌≡◌, ◌<◌, ◌≤◌, length, Ok, IfOk};
 ghost use Rattle.punctuation.specs.RangeLists.{house};
 ghost use Rattle.calls.specs.Calls.{new};
-ghost use Rattle.reader.specs.View.{view};
-ghost use Rattle.webspans.specs.Readings.{meaning, called, next_target, Accepts, ReadThrough};
+ghost use Rattle.reader.specs.View.{meaning_of, view};
+ghost use Rattle.webspans.specs.Readings.{called, next_target, Accepts, ReadThrough};
 
 use crate::lines::Answered;
 use crate::plans::Plan;
@@ -22,7 +22,7 @@ pub fn read_through(
     plan: Plan,
 ) -> Result<Vec<Answered>, AllocError>
     requires new { view reader.old ≡ new }
-    requires meaning { meaning reader.old ≡ house }
+    requires meaning { meaning_of reader.old ≡ house }
     requires short { length note.now ≤ 1024 }
     ensures { IfOk result (λ calls. ReadThrough plan note.now calls.items (view reader.new)) }
 {
@@ -46,9 +46,9 @@ pub fn read_through(
 fn read_on(reader: &mut HouseReader, until: Until, allowance: u64) -> Ran
     requires allowed { 0 < allowance }
     requires accepted { Accepts until (view reader.old) }
-    requires meaning { meaning reader.old ≡ house }
+    requires meaning { meaning_of reader.old ≡ house }
     ensures answer { (view reader.new, Ok result) ≡ called until (view reader.old) allowance }
-    ensures meaning_stays { meaning reader.new ≡ house }
+    ensures meaning_stays { meaning_of reader.new ≡ house }
 {
     match until {
         Until::Mark(to) => reader.push(to, allowance),
