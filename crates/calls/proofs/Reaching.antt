@@ -1,15 +1,15 @@
 -- Each call leads from a reader to which calls have led to another such reader.
 -- Assumes nothing.
-use Rattle.std.proofs.Common.{◌≡◌, ℕ, Bool, cond, Bor, List, [], ◌∷◌, ◌++◌, Ok, Err, Result, sym, refl, ap, ◌∙◌, subst}
+use Rattle.std.proofs.Common.{◌≡◌, ℕ, Bool, cond, Bor, List, [], ◌∷◌, ◌++◌, Ok, Err, sym, refl, ap, ◌∙◌, subst}
 use Rattle.text.specs.declared.refusals.Fault.{Fault}
 use Rattle.machine.specs.declared.cursors.Until.TheVariants.{Mark, End}
 use Rattle.machine.specs.Runs.{run}
 use Rattle.calls.specs.declared.scripts.Call.{Call}
 use Rattle.calls.specs.declared.scripts.Call.TheVariants as call
 use Rattle.calls.specs.Calls.{Model, new, checked, answer_of, loaded, pushed, ended}
-use Rattle.calls.specs.Moments.{after, Reachable}
+use Rattle.calls.specs.Moments.{Reachable}
 use Rattle.calls.specs.Steps.{run_of, with_link, with_resolved, step}
-use Rattle.calls.proofs.Checks.{Passed, checks, by_checks}
+use Rattle.calls.proofs.Checks.{Passed, checks}
 use Rattle.calls.proofs.Replays.{after_push}
 
 -- a call that no check refuses
