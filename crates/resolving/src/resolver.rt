@@ -1,0 +1,79 @@
+// Resolving, with room that is reserved once.
+ghost use Rattle.std.specs.Prelude.{◌≡◌, ◌≤◌, length, Ok};
+ghost use Rattle.edit_map.specs.View.{AsNew};
+ghost use Rattle.calls.specs.Links.{resolved};
+ghost use Rattle.resolving.specs.Ended.{Resolvable};
+
+use crate::batches::make;
+use crate::buffer::Buffer;
+use crate::links::put_links;
+use crate::mail::cut_mail;
+use calls::MarkedRun;
+use edit_map::EditMap;
+use machine::Event;
+use std::alloc::{AllocError, Global};
+use text::Fault;
+use text::notes::LONGEST_NOTE;
+use tokenizer::event_table::{EVENTS_ROOM, EventTable};
+
+// Two events for each byte of a note: what data is split into. The events of links are fewer.
+pub const STORE_ROOM: usize = 2 * LONGEST_NOTE;
+
+// Kept: no ghost field here, since a call lends two of these fields at once.
+#[derive(Drop)]
+pub struct Resolver {
+    map: EditMap,
+    store: Buffer<STORE_ROOM>,
+    spare: Buffer<EVENTS_ROOM>,
+}
+
+impl Resolver {
+    // Reserves all memory that it will ever have: no other call allocates.
+    pub fn new(heap: Global) -> Result<Resolver, AllocError> {
+        Ok(Resolver {
+            map: EditMap::new(heap)?,
+            store: Buffer::new(heap)?,
+            spare: Buffer::new(heap)?,
+        })
+    }
+
+    // The events of an ended note are resolved, with these links.
+    pub fn resolve(
+        &mut self,
+        note: &[u8],
+        links: &[MarkedRun],
+        events: &mut EventTable,
+    ) -> Result<(), Fault>
+        requires { Resolvable note.now links.now events.old.items.items }
+        ensures answer { result ≡ Ok tt }
+        ensures resolved { events.new.items.items ≡ resolved note.now links.now events.old.items.items }
+    {
+        let Resolver { map, store, spare } = self;
+        let store = store.events.as_mut_slice();
+        let spare = spare.events.as_mut_slice();
+        map.clear();
+        resolve_with(map, store, spare, note, links, events)
+    }
+}
+
+// Two passes over the events, each a batch of edits.
+fn resolve_with(
+    map: &mut EditMap,
+    store: &mut [Event],
+    spare: &mut [Event],
+    note: &[u8],
+    links: &[MarkedRun],
+    events: &mut EventTable,
+) -> Result<(), Fault>
+    requires as_new { AsNew map.old }
+    requires store { STORE_ROOM ≤ length store.old }
+    requires spare { EVENTS_ROOM ≤ length spare.old }
+    requires resolvable { Resolvable note.now links.now events.old.items.items }
+    ensures answer { result ≡ Ok tt }
+    ensures resolved { events.new.items.items ≡ resolved note.now links.now events.old.items.items }
+{
+    put_links(map, store, links, events.items.as_slice())?;
+    make(map, store, spare, events)?;
+    cut_mail(map, store, note, events.items.as_slice())?;
+    make(map, store, spare, events)
+}
