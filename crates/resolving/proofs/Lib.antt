@@ -1,3 +1,4 @@
 pub mod Behind
 pub mod Consumed
 pub mod Marking
+pub mod Splitting

@@ -1,6 +1,8 @@
 // Mail cut out of an event list: each Data span outside links is split around the mail addresses in it.
-ghost use Rattle.std.specs.Prelude.{◌≡◌, ◌+◌, ◌*◌, ◌<◌, ◌≤◌, false, [], ◌∷◌, length, Ok};
+ghost use Rattle.std.specs.Prelude.{◌≡◌, ◌+◌, ◌-◌, ◌*◌, ◌<◌, ◌≤◌, false, [], ◌∷◌, length, Ok};
+ghost use Rattle.std.specs.List.{AllByRecursion};
 ghost use Rattle.text.specs.Places.{point_at};
+ghost use Rattle.rules.specs.InTurn.{InTextOrder};
 ghost use Rattle.edit_map.specs.Edits.{added, applied, put};
 ghost use Rattle.edit_map.specs.Laws.{InOrder, Rising};
 ghost use Rattle.edit_map.specs.View.{kept_count, edits_of, AsNew};
@@ -11,6 +13,7 @@ ghost use Rattle.calls.specs.EventLists.{span};
 ghost use Rattle.calls.specs.Links.{data_between, split};
 ghost use Rattle.calls.specs.Passes.{mail_cut};
 ghost use Rattle.resolving.specs.Places.{PairsInOrder};
+ghost use Rattle.resolving.specs.Parts.{parts};
 
 use crate::batches::add;
 use edit_map::{EditMap, HIGHEST, MOST_PLACES};
@@ -18,7 +21,7 @@ use machine::{Event, EventKind, Name};
 use rules::addresses::find_addresses;
 use text::notes::LONGEST_NOTE;
 use text::spans::NO_SPAN;
-use text::{Fault, Point};
+use text::{Fault, Point, Span};
 
 // A note of 1,024 bytes has no more addresses: each has at least 5 bytes.
 const MOST_ADDRESSES: usize = 204;
@@ -80,17 +83,45 @@ fn split_data(
     ensures edits { edits_of map.new store.new ≡ added place 2 (events_of note.now (split note.now (span Data from.index to))) (edits_of map.old store.old) }
     ensures kept { kept_count map.new ≡ kept_count map.old + length (events_of note.now (split note.now (span Data from.index to))) }
 {
-    let mut addresses = [NO_SPAN; MOST_ADDRESSES];
-    let count = find_addresses(&note[from.index..to], &mut addresses)?;
+    let mut spans = [NO_SPAN; MOST_ADDRESSES];
+    let count = find_addresses(&note[from.index..to], &mut spans)?;
+    put_parts(map, store, note, place, from, to, &spans[..count])?;
+    add(map, store, place, 2, &[])
+}
+
+// The bytes up to `to` as spans: these addresses, with places counted from `from` on, and each run of other bytes as Data.
+fn put_parts(
+    map: &mut EditMap,
+    store: &mut [Event],
+    note: &[u8],
+    place: usize,
+    from: Point,
+    to: usize,
+    mail: &[Span],
+) -> Result<(), Fault>
+    requires short { length note.now ≤ LONGEST_NOTE }
+    requires placed { from ≡ point_at note.now from.index }
+    requires forward { from.index ≤ to }
+    requires inside { to ≤ length note.now }
+    requires in_turn { InTextOrder 0 mail.now × AllByRecursion (λ x. x.to ≤ to - from.index) mail.now }
+    requires low { place ≤ HIGHEST }
+    requires order { InOrder 0 place (edits_of map.old store.old) }
+    requires rising { Rising 0 (edits_of map.old store.old) }
+    requires few { length (edits_of map.old store.old) < MOST_PLACES }
+    requires room { kept_count map.old + length (events_of note.now (parts from.index mail.now to)) ≤ length store.old }
+    ensures answer { result ≡ Ok tt }
+    ensures edits { edits_of map.new store.new ≡ added place 0 (events_of note.now (parts from.index mail.now to)) (edits_of map.old store.old) }
+    ensures kept { kept_count map.new ≡ kept_count map.old + length (events_of note.now (parts from.index mail.now to)) }
+{
     let mut point = from;
-    for address in &addresses[..count] {
+    for address in mail {
         let start = from.index + address.from;
         let end = from.index + address.to;
         point = put_data(map, store, note, place, point, start)?;
         point = put_span(map, store, note, place, Name::Address(address.kind), point, end)?;
     }
     put_data(map, store, note, place, point, to)?;
-    add(map, store, place, 2, &[])
+    Ok(())
 }
 
 // The bytes up to `to` as one Data span, if there are any. The point at `to`.
