@@ -2,3 +2,4 @@ pub mod Behind
 pub mod Consumed
 pub mod Marking
 pub mod Splitting
+pub mod Found
