@@ -3,3 +3,4 @@ pub mod Consumed
 pub mod Marking
 pub mod Splitting
 pub mod Found
+pub mod Cutting

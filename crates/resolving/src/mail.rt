@@ -48,14 +48,16 @@ pub fn cut_mail(
     while place + 1 < events.len() {
         let enter = events[place];
         let exit = events[place + 1];
-        if enter.name == Name::Link {
-            in_link = enter.kind == EventKind::Enter;
-            place += 1;
-        } else {
-            if !in_link && enter.name == Name::Data {
-                split_data(map, store, note, place, enter.point, exit.point.index)?;
+        match enter.name {
+            Name::Link => {
+                in_link = enter.kind == EventKind::Enter;
+                place += 1;
             }
-            place += 2;
+            Name::Data if !in_link => {
+                split_data(map, store, note, place, enter.point, exit.point.index)?;
+                place += 2;
+            }
+            _ => place += 2,
         }
     }
     Ok(())
