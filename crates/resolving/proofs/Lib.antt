@@ -4,3 +4,5 @@ pub mod Marking
 pub mod Splitting
 pub mod Found
 pub mod Cutting
+pub mod Sets
+pub mod Ends
