@@ -1,6 +1,6 @@
 -- Each call leads from a reader to which calls have led to another such reader.
 -- Assumes nothing.
-use Rattle.std.proofs.Common.{◌≡◌, ℕ, ◌<◌, ◌≤◌, Bool, true, false, cond, not, ◌||◌, ltb, Bor, List, [], ◌∷◌, ◌++◌, length, Ok, Err, Result, is_ok, refl, sym, ap, ◌∙◌, subst}
+use Rattle.std.proofs.Common.{◌≡◌, ℕ, ◌<◌, ◌≤◌, Bool, true, false, cond, not, ◌||◌, ltb, Bor, List, [], ◌∷◌, ◌++◌, length, Ok, Err, Result, is_ok, refl, sym, ap, ◌∙◌, subst, arith}
 use Rattle.std.proofs.lemmas.Bool.{ne_eqb, le-ltb, lt-leb, true≢false}
 use mathlib.Core.Logic.{∥∥₁_map, ∥∥₁_elim}
 use Rattle.std.proofs.Math.Nat.{ℕ_set}
@@ -19,8 +19,8 @@ use Rattle.calls.specs.Calls.{Model, model, is_empty, is_loaded, is_over, pushed
 use Rattle.calls.specs.Moments.{Reachable, AlwaysTrue}
 use Rattle.calls.proofs.Checks.{Passed, checks}
 use Rattle.calls.proofs.EveryMoment.{reachable_true, reading_sound, end_leaves}
-use Rattle.calls.proofs.Reaching.{reachable_loaded, reachable_pushed, reachable_ended, reachable_linked}
-use Rattle.calls.specs.Links.{beyond, markable, ended_events}
+use Rattle.calls.proofs.Reaching.{reachable_loaded, reachable_pushed, reachable_ended, reachable_linked, reachable_resolved}
+use Rattle.calls.specs.Links.{beyond, markable, marked_in_turn, ended_events, resolved}
 use Rattle.calls.specs.Steps.{held, is_ended}
 use Rattle.machine.specs.declared.events.Event.{Event}
 use Rattle.machine.specs.declared.cursors.Until.TheVariants.{Mark, End}
@@ -28,6 +28,7 @@ use Rattle.machine.specs.Invariant.{Sound}
 use Rattle.machine.specs.Joins.{joined}
 use Rattle.machine.specs.Moves.{Machine, settled, with_tables}
 use Rattle.machine.specs.Runs.{beginning, run, Outcome}
+use Rattle.resolving.specs.Ended.{Resolvable}
 use Rattle.tokenizer.specs.Joining.{paired}
 use Rattle.tokenizer.proofs.Pairs.{done-paired}
 
@@ -105,3 +106,22 @@ pub led_by_link : (member : ℕ → Bool) (m : Model) (l : MarkedRun) (ls : List
 led_by_link member m l ls is some over may room h =
     let passed : Passed (checks m (call.Link l.first l.last)) = (some, (ap not over, (ap not may, (lt-leb 64 (length m.links) room, tt)))) in
     ∥∥₁_map h (λ r. subst (λ x. Reachable member (model m.phase m.mark m.paused m.machine x)) (sym is) (reachable_linked member m r l.first l.last passed))
+
+-- an ended reader has what resolving asks for
+pub resolvable : (member : ℕ → Bool) (m : Model) (s : List ℕ) (ls : List MarkedRun) → s ≡ m.machine.note → ls ≡ m.links → is_ended m.phase ≡ true → ∥ Reachable member m ∥₁ → Resolvable s ls (held m)
+resolvable member m s ls note links over h =
+    ∥∥₁_map (always member m h)
+    (λ a.
+    let ended : held m ≡ ended_events member m.machine.note = a.ended over in
+    record {
+      member = member;
+      ended = ended ∙ ap (ended_events member) (sym note);
+      short = omega (arith, ap length note, a.short);
+      marked = (λ i. marked_in_turn (ended i) 0 (links i)) ∙ a.in_turn;
+      few = omega (arith, ap length links, a.few);
+    })
+
+pub led_by_resolve : (member : ℕ → Bool) (m : Model) (es : List Event) → es ≡ resolved m.machine.note m.links (held m) → is_empty m.phase ≡ false → is_ended m.phase ≡ true → ∥ Reachable member m ∥₁ → ∥ Reachable member (model Resolved m.mark m.paused (with_tables es m.machine.names m.machine) m.links) ∥₁
+led_by_resolve member m es is some over h =
+    let passed : Passed (checks m call.Resolve) = (some, (ap not over, tt)) in
+    ∥∥₁_map h (λ r. subst (λ x. Reachable member (model Resolved m.mark m.paused (with_tables x m.machine.names m.machine) m.links)) (sym is) (reachable_resolved member m r passed))

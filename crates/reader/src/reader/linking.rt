@@ -1,13 +1,13 @@
-// Runs of events marked as links: docs/ENGINE.md, section 9. Refusals are checked in the order of their numbers, and a refused
+// Links marked, put in, and mail cut out: docs/ENGINE.md, section 9. Refusals are checked in the order of their numbers, and a refused
 // call changes nothing.
 ghost use Rattle.std.specs.Prelude.{◌≡◌, nat_le, OnErr};
 ghost use Rattle.calls.specs.Links.{has_enter, has_exit, beyond, markable};
-ghost use Rattle.calls.specs.Steps.{link};
+ghost use Rattle.calls.specs.Steps.{link, resolve};
 ghost use Rattle.machine.specs.Laws.{enters};
 ghost use Rattle.reader.specs.View.{set_of, events_held, view};
 
 use super::Reader;
-use calls::MarkedRun;
+use calls::{MarkedRun, Phase};
 use machine::EventKind;
 use punctuation::sets::PunctuationSet;
 use text::Fault;
@@ -35,6 +35,27 @@ impl<S: PunctuationSet> Reader<S> {
             return Err(Fault::TooManyLinks);
         }
         self.links.push(run);
+        Ok(())
+    }
+
+    // Puts each marked run into a Link, and splits each Data span outside links around the mail addresses in it. Refused: 3 an
+    // empty reader; 8 unless ended.
+    pub fn resolve(&mut self) -> Result<(), Fault>
+        ensures answer { (view self.new, result) ≡ resolve (view self.old) }
+        ensures set { set_of self.new ≡ set_of self.old }
+        ensures refused { OnErr result (self.new ≡ self.old) }
+    {
+        if self.phase.is_empty() {
+            return Err(Fault::NothingLoaded);
+        }
+        if !self.phase.is_ended() {
+            return Err(Fault::NotEnded);
+        }
+        let resolver = &mut self.resolver;
+        let links = &self.links;
+        let tokenizer = &mut self.engine.tokenizer;
+        resolver.resolve(&tokenizer.note, &links.items, &mut tokenizer.events)?;
+        self.phase = Phase::Resolved;
         Ok(())
     }
 

@@ -7,6 +7,7 @@ use super::Reader;
 use calls::Phase;
 use engine::Engine;
 use punctuation::sets::PunctuationSet;
+use resolving::Resolver;
 use std::alloc::{AllocError, Global};
 use tokenizer::Tokenizer;
 use tokenizer::table::Table;
@@ -19,12 +20,14 @@ impl<S: PunctuationSet + Drop> Reader<S> {
     {
         let tokenizer = Tokenizer::new(heap)?;
         let links = Table::new(heap)?;
+        let resolver = Resolver::new(heap)?;
         Ok(Reader {
             engine: Engine { tokenizer, set },
             phase: Phase::Empty,
             mark: 0,
             paused: false,
             links,
+            resolver,
         })
     }
 }

@@ -6,6 +6,7 @@ ghost use Rattle.tokenizer.specs.View.{machine};
 use calls::{MarkedRun, Phase};
 use engine::Engine;
 use punctuation::sets::PunctuationSet;
+use resolving::Resolver;
 use tokenizer::event_table::LINKS_ROOM;
 use tokenizer::table::Table;
 
@@ -13,7 +14,6 @@ mod events;
 mod linking;
 mod making;
 mod reading;
-mod resolving;
 
 // One note at a time, read with the reader's punctuation set.
 // Kept: `mark` and `paused` are no fields of Phase::Loaded, since the definition (calls/specs/Calls) tells them in every phase.
@@ -26,6 +26,7 @@ pub struct Reader<S: PunctuationSet> {
     // whether the last accepted push paused
     paused: bool,
     links: Table<MarkedRun, LINKS_ROOM>,
+    resolver: Resolver,
     // some list of calls has led to it from new
     ghost reachable: { ∥ Reachable (S.member engine.set) (model phase mark paused (machine engine.tokenizer) links.items.items) ∥₁ },
 }
