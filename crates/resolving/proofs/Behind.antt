@@ -1,8 +1,8 @@
 -- A batch whose edits lie before a number of the list: what it makes of the list up to there, and one more edit at that number.
 -- Assumes nothing.
-use Rattle.std.proofs.Common.{◌≡◌, ℕ, suc, ◌+◌, ◌-◌, ◌<◌, ◌≤◌, Bool, true, false, cond, ◌&&◌, ◌||◌, ◌⊎◌, eqb, ltb, List, [], ◌∷◌, ◌++◌, length, take, drop, Ok, Err, sym, refl, ap, ◌∙◌, subst, ⊎_elim, arith, take-add}
-use Rattle.std.proofs.lemmas.List.{append_assoc, append-nil, length-append, length-drop, length-take-le, take-append-drop, take-append-le, drop-append-le, take_at, drop_at, take_all, drop_all}
-use Rattle.std.proofs.lemmas.Bool.{cond-true, cond-false, cond_both, lt-ltb, le-ltb, eq-eqb, eqb-true, cases_Bool, cases_order, and_parts}
+use Rattle.std.proofs.Common.{◌≡◌, ℕ, suc, ◌+◌, ◌-◌, ◌<◌, ◌≤◌, Bool, true, false, cond, ◌||◌, ◌⊎◌, eqb, ltb, List, [], ◌∷◌, ◌++◌, length, take, drop, Ok, Err, sym, refl, ap, ◌∙◌, subst, ⊎_elim, arith, take-add}
+use Rattle.std.proofs.lemmas.List.{append_assoc, append-nil, length-append, length-drop, length-take-le, take-append-drop, take-append-le, drop-append-le, take_at, take_all, drop_all}
+use Rattle.std.proofs.lemmas.Bool.{cond-true, cond-false, cond_both, le-ltb, eqb-true, cases_Bool, cases_order, and_parts}
 use Rattle.text.specs.declared.refusals.Fault.TheVariants.{NoRoomForEdit}
 use Rattle.edit_map.specs.declared.entries.Side.TheVariants.{Back}
 use Rattle.edit_map.specs.Edits.{Edit, edit, put, idle, added, count_at, add_answer, applied, applied_from}

@@ -6,7 +6,7 @@ use Rattle.std.proofs.lemmas.Bool.{cond-true, cond-false, le-ltb, le-leb}
 use Rattle.text.specs.declared.refusals.Fault.{Fault}
 use Rattle.text.specs.declared.refusals.Fault.TheVariants.{BufferTooShort}
 use Rattle.text.specs.Lent.{fits, overwritten}
-use Rattle.edit_map.specs.Edits.{Edit, applied, past_end, inside_removal, consume_check, consume_answer, size_answer, needed, unless_refused}
+use Rattle.edit_map.specs.Edits.{Edit, applied, past_end, inside_removal, consume_answer, size_answer, needed, unless_refused}
 use Rattle.edit_map.specs.Laws.{InOrder}
 
 pub not_both : {X Y : Type 0} (n : X) (f : Fault) (r : Result X Fault) → Err f ≡ r → r ≡ Ok n → Y

@@ -1,26 +1,21 @@
 -- The edits that cut mail out of an event list, from its front on.
 -- Assumes nothing.
-use Rattle.std.proofs.Common.{◌≡◌, ℕ, suc, ◌+◌, ◌-◌, ◌*◌, ◌<◌, ◌≤◌, Bool, true, false, cond, not, ◌||◌, List, [], ◌∷◌, ◌++◌, length, get_or, take, drop, sym, refl, ap, ◌∙◌, subst, arith}
+use Rattle.std.proofs.Common.{◌≡◌, ℕ, suc, ◌+◌, ◌-◌, ◌*◌, ◌<◌, ◌≤◌, Bool, true, false, not, ◌||◌, List, [], ◌∷◌, ◌++◌, length, get_or, take, drop, sym, refl, ap, ◌∙◌, subst, arith}
 use Rattle.std.proofs.Math.Seq.{drop-cons}
-use Rattle.std.proofs.lemmas.List.{append_assoc, append-nil, length-append, length-drop}
+use Rattle.std.proofs.lemmas.List.{append_assoc, length-drop}
 use Rattle.std.proofs.lemmas.Bool.{cond-true, cond-false}
-use Rattle.text.specs.declared.places.Point.{Point}
-use Rattle.text.specs.Places.{point_at}
-use Rattle.edit_map.specs.declared.entries.Side.TheVariants.{Back}
-use Rattle.edit_map.specs.Edits.{Edit, put, added, applied}
+use Rattle.edit_map.specs.Edits.{Edit, added, applied}
 use Rattle.edit_map.specs.Laws.{InOrder, Rising}
 use Rattle.machine.specs.declared.events.Event.{Event}
-use Rattle.machine.specs.declared.events.EventKind.TheVariants.{Enter, Exit}
-use Rattle.machine.specs.declared.events.Name.{Name}
 use Rattle.machine.specs.declared.events.Name.TheVariants as name
 use Rattle.machine.specs.Joins.{is_data}
-use Rattle.machine.specs.Laws.{enters, event_at, Segment, events_of, Tiles}
+use Rattle.machine.specs.Laws.{enters, Segment, events_of, Tiles}
 use Rattle.calls.specs.EventLists.{span, is_link}
 use Rattle.calls.specs.Links.{split}
 use Rattle.calls.specs.Passes.{mail_cut}
 use Rattle.calls.proofs.Mail.{split-tiles}
 use Rattle.resolving.specs.Places.{AtItsPlace, PairsInOrder}
-use Rattle.resolving.proofs.Behind.{PutBehind, put_behind, put_rises, Makes, makes_none, makes_on, makes_put, makes_all, makes-order, stretch}
+use Rattle.resolving.proofs.Behind.{put_behind, Makes, makes_none, makes_on, makes_put, makes_all, makes-order, stretch}
 
 -- ---- how many events data is split into
 

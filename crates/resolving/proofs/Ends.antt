@@ -1,6 +1,6 @@
 -- The events of a note that was read to its end: what the two passes need to know of them.
 -- Assumes nothing.
-use Rattle.std.proofs.Common.{◌≡◌, ℕ, suc, ◌+◌, ◌-◌, ◌*◌, ◌<◌, ◌≤◌, Bool, true, false, List, [], ◌∷◌, ◌++◌, length, take, drop, sym, refl, ap, ◌∙◌, subst, arith}
+use Rattle.std.proofs.Common.{◌≡◌, ℕ, suc, ◌+◌, ◌-◌, ◌*◌, ◌≤◌, Bool, true, false, List, [], ◌∷◌, ◌++◌, length, drop, sym, refl, ap, ◌∙◌, subst, arith}
 use mathlib.Core.Logic.{∥∥₁_elim}
 use mathlib.Core.Bool.{Bool-set}
 use mathlib.Core.List.{is_set}
@@ -16,7 +16,6 @@ use Rattle.machine.specs.declared.events.EventKind.TheVariants.{Enter, Exit}
 use Rattle.machine.specs.declared.events.Name.TheVariants as name
 use Rattle.machine.specs.Laws.{event_at, Segment, events_of, Tiles}
 use Rattle.calls.specs.declared.links.MarkedRun.{MarkedRun}
-use Rattle.calls.specs.EventLists.{is_link}
 use Rattle.calls.specs.Links.{marked_in_turn, numbered, linked, resolved, ended_spans, ended_events}
 use Rattle.calls.specs.Passes.{with_links_from, with_links, mail_cut}
 use Rattle.calls.proofs.Spans.{Leaf, tiles_le}
@@ -27,8 +26,8 @@ use Rattle.calls.proofs.Inside.{tiles-split}
 use Rattle.calls.proofs.Lengths.{ended-room, resolved-room}
 use Rattle.calls.proofs.Passes.{two_passes_resolve}
 use Rattle.resolving.specs.Ended.{EndedWith, Resolvable}
-use Rattle.resolving.specs.Places.{AtItsPlace, AllPlaced, PairsInOrder}
-use Rattle.resolving.proofs.Marking.{Run, run_of}
+use Rattle.resolving.specs.Places.{AllPlaced, PairsInOrder}
+use Rattle.resolving.proofs.Marking.{run_of}
 use Rattle.resolving.proofs.Sets.{events-set}
 
 -- ---- places

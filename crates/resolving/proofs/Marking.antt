@@ -1,14 +1,14 @@
 -- The edits that put links into an event list, one link after another.
 -- Assumes nothing.
-use Rattle.std.proofs.Common.{◌≡◌, ℕ, zero, suc, ◌+◌, ◌-◌, ◌*◌, ◌<◌, ◌≤◌, Bool, true, false, ◌&&◌, ltb, leb, List, [], ◌∷◌, ◌++◌, length, get_or, take, drop, Ok, sym, refl, ap, ◌∙◌, subst, arith}
-use Rattle.std.proofs.lemmas.List.{append_assoc, length-append, drop_all}
+use Rattle.std.proofs.Common.{◌≡◌, ℕ, zero, suc, ◌+◌, ◌*◌, ◌<◌, ◌≤◌, true, ◌&&◌, ltb, leb, List, [], ◌∷◌, ◌++◌, length, get_or, drop, sym, refl, ap, ◌∙◌, subst, arith}
+use Rattle.std.proofs.lemmas.List.{append_assoc, drop_all}
 use Rattle.std.proofs.Math.Seq.{drop-cons}
 use Rattle.std.proofs.lemmas.Bool.{and_parts, leb-true, ltb-true, true≢false}
 use Rattle.text.specs.declared.places.Point.{Point}
 use Rattle.text.specs.Places.{point_at}
 use Rattle.edit_map.specs.declared.entries.Side.TheVariants.{Back}
 use Rattle.edit_map.specs.Edits.{Edit, put, added, applied}
-use Rattle.edit_map.specs.Laws.{InOrder, Rising}
+use Rattle.edit_map.specs.Laws.{InOrder}
 use Rattle.machine.specs.declared.events.Event.{Event}
 use Rattle.machine.specs.declared.events.EventKind.{EventKind}
 use Rattle.machine.specs.declared.events.EventKind.TheVariants.{Enter, Exit}
@@ -17,8 +17,8 @@ use Rattle.machine.specs.Laws.{event_at}
 use Rattle.calls.specs.declared.links.MarkedRun.{MarkedRun}
 use Rattle.calls.specs.Links.{has_enter, has_exit, markable, marked_in_turn, numbered, index_of, linked}
 use Rattle.calls.specs.Passes.{with_links_from, with_links}
-use Rattle.resolving.specs.Places.{AtItsPlace, AllPlaced}
-use Rattle.resolving.proofs.Behind.{PutBehind, put_behind, Makes, makes_none, makes_on, makes_put, makes_all, makes-order, stretch}
+use Rattle.resolving.specs.Places.{AllPlaced}
+use Rattle.resolving.proofs.Behind.{put_behind, Makes, makes_none, makes_on, makes_put, makes_all, makes-order, stretch}
 
 -- ---- the events of a link
 

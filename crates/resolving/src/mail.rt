@@ -120,7 +120,15 @@ fn put_parts(
         let start = from.index + address.from;
         let end = from.index + address.to;
         point = put_data(map, store, note, place, point, start)?;
-        point = put_span(map, store, note, place, Name::Address(address.kind), point, end)?;
+        point = put_span(
+            map,
+            store,
+            note,
+            place,
+            Name::Address(address.kind),
+            point,
+            end,
+        )?;
     }
     put_data(map, store, note, place, point, to)?;
     Ok(())

@@ -1,5 +1,4 @@
-use Rattle.std.proofs.Common.{◌≤◌, length, refl, ◌∙◌, ap, arith}
-use Rattle.std.proofs.lemmas.List.{length-take-le}
+use Rattle.std.proofs.Common.{length, refl, ◌∙◌, ap, arith}
 use Rattle.edit_map.specs.View.{kept_count, edits_of}
 use Rattle.resolving.proofs.Consumed.{front, consumed, not_both}
 use Rattle.resolving.proofs.batches.make.Goals as goal

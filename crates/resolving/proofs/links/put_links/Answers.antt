@@ -1,4 +1,4 @@
-use Rattle.std.proofs.Common.{◌≡◌, ◌+◌, ◌*◌, ◌<◌, ◌≤◌, List, [], ◌∷◌, length, drop, get_or, refl, sym, ap, ◌∙◌, subst, arith}
+use Rattle.std.proofs.Common.{refl, sym, ap, subst, arith}
 use Rattle.edit_map.specs.View.{kept_count, edits_of}
 use Rattle.edit_map.specs.Entries.{total, edits}
 use Rattle.calls.specs.declared.links.MarkedRun.{MarkedRun}

@@ -1,4 +1,4 @@
-use Rattle.std.proofs.Common.{◌≡◌, Bool, true, false, not, ◌||◌, ◌+◌, ◌-◌, ◌<◌, ◌≤◌, List, [], ◌∷◌, ◌++◌, length, take, drop, refl, sym, ap, ◌∙◌, subst, arith}
+use Rattle.std.proofs.Common.{◌≡◌, false, not, ◌+◌, refl, sym, ap, ◌∙◌, subst, arith}
 use Rattle.std.proofs.lemmas.Bool.{or_left, or_right}
 use Rattle.edit_map.specs.Entries.{total, edits}
 use Rattle.edit_map.specs.View.{kept_count, edits_of}
@@ -65,9 +65,9 @@ other (name.Address kind) l d = (refl, refl)
 pub loop-place-preserved : goal.loop-place-preserved
 loop-place-preserved c =
     elim c.in_default.branch [
-      in_default-via-in-Data+else-not-in_link w ↦
-        after_span _ _ _ _ _ _ c.loop-place.invariant c.loop-place-test.true blank (ap is_link w.in-Data.is) (or_left c.loop-place.in_link _ w.if-not-in_link.false)
-    | in_default-via-in_default w ↦
-        let o = other _ w.in_default.not-Link w.in_default.not-Data in
-        after_span _ _ _ _ _ _ c.loop-place.invariant c.loop-place-test.true blank o.0 (or_right c.loop-place.in_link _ (ap not o.1))
+      | in_default-via-in-Data+else-not-in_link w ↦
+          after_span _ _ _ _ _ _ c.loop-place.invariant c.loop-place-test.true blank (ap is_link w.in-Data.is) (or_left c.loop-place.in_link _ w.if-not-in_link.false)
+      | in_default-via-in_default w ↦
+          let o = other _ w.in_default.not-Link w.in_default.not-Data in
+          after_span _ _ _ _ _ _ c.loop-place.invariant c.loop-place-test.true blank o.0 (or_right c.loop-place.in_link _ (ap not o.1))
     ]

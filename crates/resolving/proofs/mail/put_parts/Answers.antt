@@ -1,9 +1,9 @@
-use Rattle.std.proofs.Common.{◌≡◌, ◌+◌, ◌-◌, ◌<◌, ◌≤◌, List, [], ◌∷◌, ◌++◌, length, drop, get_or, refl, sym, ap, ◌∙◌, subst, arith}
+use Rattle.std.proofs.Common.{refl, ap, ◌∙◌, arith}
 use Rattle.text.specs.declared.spans.Span.{Span}
 use Rattle.text.specs.declared.spans.SpanKind.TheVariants.{Www}
 use Rattle.edit_map.specs.Edits.{added}
 use Rattle.edit_map.specs.View.{kept_count, edits_of}
-use Rattle.resolving.proofs.Splitting.{Splitting, none-split, next_part, asks, one-more, last_part, asks-last, in_order, few, more, reached}
+use Rattle.resolving.proofs.Splitting.{none-split, next_part, asks, one-more, last_part, asks-last, in_order, few, more, reached}
 use Rattle.resolving.proofs.mail.put_parts.Goals as goal
 
 pub loop-address-init : goal.loop-address-init

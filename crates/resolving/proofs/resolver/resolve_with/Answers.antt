@@ -1,6 +1,6 @@
-use Rattle.std.proofs.Common.{◌*◌, ◌≤◌, List, length, sym, ap, ◌∙◌, subst, arith}
+use Rattle.std.proofs.Common.{List, length, sym, ap, ◌∙◌, subst, arith}
 use Rattle.edit_map.specs.Laws.{InOrder}
-use Rattle.edit_map.specs.View.{kept_count, edits_of}
+use Rattle.edit_map.specs.View.{edits_of}
 use Rattle.machine.specs.declared.events.Event.{Event}
 use Rattle.calls.specs.Links.{marked_in_turn}
 use Rattle.resolving.specs.Places.{PairsInOrder}
