@@ -10,7 +10,7 @@ use Rattle.text.specs.Lent.{fits}
 use Rattle.text.proofs.Runs.{part_length}
 use Rattle.edit_map.specs.Edits.{Edit, applied, past_end, inside_removal, consume_check, consume_answer, size_answer, needed, unless_refused}
 use Rattle.edit_map.specs.Laws.{InOrder}
-use Rattle.marked.specs.Marked.{opening, closing, marked_from, marked_copy, unmarked, unmarked_from}
+use Rattle.marked.specs.Marked.{opening, closing, marked_from, marked_copy, unmarked, unmarked_from, OnlyMarks}
 use Rattle.marked.specs.Marks.{IsInTurn, marks}
 use Rattle.marked.proofs.Puts.{none-past_end, none_inside, marks_of, dropped}
 
@@ -91,3 +91,6 @@ unmarked-rest s c (x ∷ xs) t =
 
 pub copy-unmarked : (s : List ℕ) (xs : List Span) → IsInTurn 0 (length s) xs → unmarked xs (marked_copy s xs) ≡ s
 copy-unmarked s xs t = unmarked-rest s 0 xs t
+
+pub only_marks : (s : List ℕ) (xs : List Span) → IsInTurn 0 (length s) xs → OnlyMarks s xs
+only_marks s xs t = record { size = length-copy s xs t; only_marks = copy-unmarked s xs t }

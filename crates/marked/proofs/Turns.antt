@@ -52,7 +52,7 @@ pub record Turn (x : Span) (es : List (Edit ℕ)) (kept room : ℕ) : Type 0 whe
   pub few : length es + 2 ≤ 1024
   pub fits : kept + 3 ≤ room
 
-pub turn : (xs before : List Span) (x : Span) (done : List Span) (es : List (Edit ℕ)) (kept room : ℕ) → IsInTurn 0 1024 xs → length xs ≤ 204 → xs ≡ before ++ (x ∷ done) → es ≡ marks done → kept ≡ 3 * length done → 3 * length xs ≤ room → Turn x es kept room
+pub turn : (xs before : List Span) (x : Span) (done : List Span) (es : List (Edit ℕ)) (kept room : ℕ) → IsInTurn 0 1024 xs → length xs ≤ 341 → xs ≡ before ++ (x ∷ done) → es ≡ marks done → kept ≡ 3 * length done → 3 * length xs ≤ room → Turn x es kept room
 turn xs before x done es kept room t few all made k r =
     let here = at-span 0 1024 before x done (subst (IsInTurn 0 1024) all t) in
     let m = marks_of x.to 1024 done here.2 in

@@ -1,4 +1,4 @@
--- The marked copy of a note: a mark before each address that tells its kind, and one after it.
+-- The marked copy of a note: a mark before each span that tells its kind, and one after it.
 -- Assumes nothing.
 use Rattle.std.specs.Prelude.{◌≡◌, ℕ, ◌+◌, ◌-◌, ◌*◌, ◌≤◌, cond, List, [], ◌∷◌, ◌++◌, length, take, drop, Err, Result}
 use Rattle.text.specs.declared.refusals.Fault.{Fault}
@@ -58,6 +58,11 @@ unmarked_from i (x ∷ xs) t =
 
 abbrev pub unmarked : List Span → List ℕ → List ℕ
 unmarked xs t = unmarked_from 0 xs t
+
+-- the copy has three bytes more for each span, and without its marks it is the note
+pub record OnlyMarks (s : List ℕ) (xs : List Span) : Type 0 where
+  pub size : length (marked_copy s xs) ≡ length s + 3 * length xs
+  pub only_marks : unmarked xs (marked_copy s xs) ≡ s
 
 -- no address has fewer than five bytes; the copy has three bytes more for each address, and without its marks it is the note
 pub record Faithful (s : List ℕ) : Type 0 where

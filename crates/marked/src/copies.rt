@@ -1,11 +1,11 @@
-// The marked copy of a note: `{e`, `{m` or `{x` before each mail address, and `}` after it.
+// The marked copy of a note: `{` and the letter of its kind before each span, and `}` after it.
 ghost use Rattle.std.specs.Prelude.{◌≡◌, ◌+◌, ◌*◌, ◌<◌, ◌≤◌, length, Ok, OnErr, OnOk};
-ghost use Rattle.text.specs.Lent.{overwritten};
+ghost use Rattle.text.specs.Lent.{written_count, overwritten};
 ghost use Rattle.edit_map.specs.Edits.{put};
 ghost use Rattle.edit_map.specs.Laws.{InOrder};
 ghost use Rattle.edit_map.specs.View.{kept_count, edits_of, AsNew};
 ghost use Rattle.edit_map.specs.declared.entries.Side.TheVariants.{Front};
-ghost use Rattle.marked.specs.Marked.{letter_of, marked_copy, marked_answer, marked_written, Faithful};
+ghost use Rattle.marked.specs.Marked.{letter_of, marked_copy, marked_answer, marked_written, OnlyMarks, Faithful};
 ghost use Rattle.marked.specs.Marks.{IsInTurn, with_marks, marks};
 
 use edit_map::{EditMap, MOST_PLACES};
@@ -15,17 +15,19 @@ use text::notes::LONGEST_NOTE;
 use text::spans::NO_SPAN;
 use text::{Fault, Span, SpanKind};
 
-// A note of 1,024 bytes has no more addresses: each has at least 5 bytes.
+// A note of 1,024 bytes has no more spans: each has at least 3 bytes.
+pub const MOST_SPANS: usize = 341;
+
+// And no more addresses: each has at least 5 bytes.
 const MOST_ADDRESSES: usize = 204;
 
-// The bytes of the two marks of an address.
-const MARK_SIZE: usize = 3;
+// The bytes of the two marks of a span.
+pub const MARK_SIZE: usize = 3;
 
-// No marked copy has more bytes.
+// No marked copy of a note's addresses has more bytes.
 pub const LONGEST_COPY: usize = LONGEST_NOTE + MARK_SIZE * MOST_ADDRESSES;
 
-// Writes the marked copy of a note to the front of `out`, and answers how many bytes that is. The copy is made by edits
-// in `map`, which forgets the edits that it has kept.
+// Writes the copy of a note in which its mail addresses are marked to the front of `out`, and answers how many bytes that is.
 //
 // Refused are 1 a note that is too long, and 16 an `out` that is too short. Nothing is changed then.
 pub fn mark_addresses(map: &mut EditMap, note: &[u8], out: &mut [u8]) -> Result<usize, Fault>
@@ -38,8 +40,30 @@ pub fn mark_addresses(map: &mut EditMap, note: &[u8], out: &mut [u8]) -> Result<
     // Kept: fixed arrays of spans and of marks, since the library allocates nothing after `new`.
     let mut spans = [NO_SPAN; MOST_ADDRESSES];
     let count = find_note_addresses(note, &mut spans)?;
-    check_room(note.len() + MARK_SIZE * count, out.len())?;
-    write_copy(map, note, &spans[..count], out)
+    mark_spans(map, note, &spans[..count], out)
+}
+
+// Writes the copy of a note in which these spans are marked to the front of `out`, and answers how many bytes that is. The
+// copy is made by edits in `map`, which forgets the edits that it has kept.
+//
+// Refused is 16 an `out` that is too short. Nothing is changed then.
+pub fn mark_spans(
+    map: &mut EditMap,
+    note: &[u8],
+    spans: &[Span],
+    out: &mut [u8],
+) -> Result<usize, Fault>
+    requires short { length note.now ≤ LONGEST_NOTE }
+    requires few { length spans.now ≤ MOST_SPANS }
+    requires in_turn { IsInTurn 0 (length note.now) spans.now }
+    ensures answer { result ≡ written_count (marked_copy note.now spans.now) out.old }
+    ensures written { out.new ≡ overwritten (marked_copy note.now spans.now) out.old }
+    ensures as_new { OnOk result (AsNew map.new) }
+    ensures refused { OnErr result (map.new ≡ map.old) }
+    ensures only_marks { OnlyMarks note.now spans.now }
+{
+    check_room(note.len() + MARK_SIZE * spans.len(), out.len())?;
+    write_copy(map, note, spans, out)
 }
 
 // Where there is room for the copy.
@@ -50,14 +74,14 @@ fn write_copy(
     out: &mut [u8],
 ) -> Result<usize, Fault>
     requires short { length note.now ≤ LONGEST_NOTE }
-    requires few { length spans.now ≤ MOST_ADDRESSES }
+    requires few { length spans.now ≤ MOST_SPANS }
     requires in_turn { IsInTurn 0 (length note.now) spans.now }
     requires room { length (marked_copy note.now spans.now) ≤ length out.old }
     ensures answer { result ≡ Ok (length (marked_copy note.now spans.now)) }
     ensures written { out.new ≡ overwritten (marked_copy note.now spans.now) out.old }
     ensures as_new { AsNew map.new }
 {
-    let mut store = [0u8; MARK_SIZE * MOST_ADDRESSES];
+    let mut store = [0u8; MARK_SIZE * MOST_SPANS];
     map.clear();
     put_marks(map, &mut store, spans)?;
     map.consume(&store, note, out)
@@ -67,7 +91,7 @@ fn write_copy(
 // From the last span to the first: so each mark goes before all that are kept, and an end before a start at its place.
 fn put_marks(map: &mut EditMap, store: &mut [u8], spans: &[Span]) -> Result<(), Fault>
     requires as_new { AsNew map.old }
-    requires few { length spans.now ≤ MOST_ADDRESSES }
+    requires few { length spans.now ≤ MOST_SPANS }
     requires in_turn { IsInTurn 0 LONGEST_NOTE spans.now }
     requires room { MARK_SIZE * length spans.now ≤ length store.old }
     ensures answer { result ≡ Ok tt }
