@@ -1,0 +1,3 @@
+pub mod Placed
+pub mod Groups
+pub mod SavedLists

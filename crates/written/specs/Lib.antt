@@ -1,0 +1,3 @@
+pub mod Fronts
+pub mod Numbers
+pub mod SavedLists
