@@ -1,3 +1,4 @@
-pub mod Placed
 pub mod Groups
+pub mod LineEnds
+pub mod Placed
 pub mod SavedLists

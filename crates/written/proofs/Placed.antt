@@ -49,3 +49,14 @@ placed-three xs ys zs lent one two three at a b room same a-is b-is e f g =
     ∙ placed-placed ys zs one a second
     ∙ (λ i. placed (ys ++ zs) (a-is i) (e i))
     ∙ placed-placed xs (ys ++ zs) lent at first
+
+-- what a call that writes xs at a place leaves: the slice, and the place after xs
+pub record Puts (xs lent : List ℕ) (at : ℕ) (after : List ℕ) (end : ℕ) : Type 0 where
+  pub next : end ≡ at + length xs
+  pub written : after ≡ placed xs at lent
+
+pub puts-both : (xs ys lent one two : List ℕ) (at a b : ℕ) → at + length xs ≤ length lent → Puts xs lent at one a → Puts ys one a two b → Puts (xs ++ ys) lent at two b
+puts-both xs ys lent one two at a b room x y = record {
+  next = y.next ∙ ap (λ n. n + length ys) x.next ∙ omega (arith, length-append xs ys);
+  written = y.written ∙ (λ i. placed ys (x.next i) (x.written i)) ∙ placed-placed xs ys lent at room;
+}

@@ -1,3 +1,4 @@
 pub mod Fronts
+pub mod Listing
 pub mod Numbers
 pub mod SavedLists

@@ -2,5 +2,7 @@
 #![tactic(auto)]
 
 mod fronts;
+pub mod lines;
+pub mod listing;
 mod numbers;
 pub mod saved;
