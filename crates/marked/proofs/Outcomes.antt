@@ -20,7 +20,7 @@ use Rattle.marked.proofs.Copied.{length-copy, copy-unmarked}
 
 -- ---- how many addresses a note has
 
-five_bytes : (s : List ℕ) (x : Span) → Address s x → x.from + 5 ≤ x.to
+pub five_bytes : (s : List ℕ) (x : Span) → Address s x → x.from + 5 ≤ x.to
 five_bytes s x a =
     let d = a.domain.dot_inside in
     ⊎_elim (λ e. omega (arith, a.local_part, e, d.0, d.1)) (λ r. omega (arith, a.local_part, r.1.1, d.0, d.1)) a.to_the_end

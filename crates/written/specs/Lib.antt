@@ -2,3 +2,4 @@ pub mod Fronts
 pub mod Listing
 pub mod Numbers
 pub mod SavedLists
+pub mod Spans

@@ -1,8 +1,10 @@
 // The written forms of what a reader holds: the saved list, the marked copy, and the listing: docs/FORMATS.md, sections 1 to 5.
 #![tactic(auto)]
 
+pub mod copies;
 mod fronts;
 pub mod lines;
 pub mod listing;
 mod numbers;
 pub mod saved;
+mod spans;

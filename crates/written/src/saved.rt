@@ -1,16 +1,35 @@
 // The saved list: docs/FORMATS.md, section 3.
-ghost use Rattle.std.specs.Prelude.{◌≡◌, ◌+◌, ◌*◌, ◌<◌, ◌≤◌, length, Some};
+ghost use Rattle.std.specs.Prelude.{ℕ, List, ◌≡◌, ◌+◌, ◌*◌, ◌<◌, ◌≤◌, length, Some};
 ghost use Rattle.text.specs.Lent.{written_count, overwritten};
 ghost use Rattle.machine.specs.Laws.{kind_number};
 ghost use Rattle.marked.specs.Marks.{IsInTurn};
 ghost use Rattle.written.specs.Fronts.{placed};
 ghost use Rattle.written.specs.Numbers.{number, NumbersAreShortest};
 ghost use Rattle.written.specs.SavedLists.{saved_list, saved_span, read_list};
+ghost use Rattle.written.specs.Spans.{written_spans, IsResolved};
 
 use crate::numbers::{number_size, put_number};
+use crate::spans::find_spans;
+use machine::Event;
+use marked::copies::MOST_SPANS;
 use text::lent::check_room;
 use text::notes::LONGEST_NOTE;
+use text::spans::NO_SPAN;
 use text::{Fault, Span, SpanKind};
+
+// Writes the saved list of resolved events to the front of `out`, and answers how many bytes that is. Refused is 16 an `out`
+// that is too short. Nothing is changed then.
+pub fn save_events(events: &[Event], out: &mut [u8]) -> Result<usize, Fault>
+    requires { (note : List ℕ) × (length note ≤ LONGEST_NOTE) × IsResolved note events.now }
+    ensures answer { result ≡ written_count (saved_list (written_spans events.now)) out.old }
+    ensures written { out.new ≡ overwritten (saved_list (written_spans events.now)) out.old }
+    ensures read_back { read_list (saved_list (written_spans events.now)) ≡ Some (written_spans events.now) }
+    ensures numbers_are_shortest { NumbersAreShortest }
+{
+    let mut spans = [NO_SPAN; MOST_SPANS];
+    let count = find_spans(events, &mut spans);
+    save_spans(&spans[..count], out)
+}
 
 // Writes the saved list of spans of a note to the front of `out`, and answers how many bytes that is. Refused is 16 an `out`
 // that is too short. Nothing is changed then.

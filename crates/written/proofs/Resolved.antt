@@ -1,0 +1,147 @@
+-- The written spans of resolved events lie in turn in the note, and are few.
+-- Assumes nothing.
+use Rattle.std.proofs.Common.{◌≡◌, ℕ, ◌+◌, ◌*◌, ◌<◌, ◌≤◌, true, cond, not, ltb, leb, List, [], ◌∷◌, ◌++◌, length, take, drop, replicate, sym, refl, ap, ◌∙◌, subst, ⊎_elim, arith}
+use Rattle.std.specs.List.{AllByRecursion}
+use Rattle.std.proofs.lemmas.Bool.{cases_Bool, cond-true, and_parts, ltb-true, leb-true, le-leb, true≢false}
+use Rattle.std.proofs.lemmas.List.{length-append, take_at}
+use Rattle.text.specs.declared.spans.Span.{Span}
+use Rattle.text.specs.declared.spans.SpanKind.TheVariants.{Www, Protocol, Email, Mailto, Xmpp}
+use Rattle.text.specs.Lent.{fits, overwritten}
+use Rattle.machine.specs.declared.events.Event.{Event}
+use Rattle.machine.specs.declared.events.EventKind.{EventKind}
+use Rattle.machine.specs.declared.events.EventKind.TheVariants.{Enter, Exit}
+use Rattle.machine.specs.declared.events.Name.{Name}
+use Rattle.machine.specs.declared.events.Name.TheVariants as name
+use Rattle.machine.specs.Laws.{Segment, same_name}
+use Rattle.marked.specs.Marks.{IsInTurn}
+use Rattle.calls.specs.Claims.{marked_spans, data_of}
+use Rattle.calls.specs.EventLists.{is_link, is_web_address, is_mail_address, open_then, closes, nests, only_links_hold, closed_by, spans_from, spans, with_name, in_order, Placed}
+use Rattle.written.specs.Spans.{address, addresses_of, written_spans, IsResolved}
+use Rattle.written.proofs.Sizes.{Long, links-long, mail-long}
+
+-- ---- where the spans of an event list lie
+
+-- not empty, and within so many bytes
+abbrev Inside : ℕ → Segment → Type 0
+Inside len x = (x.from < x.to) × (x.to ≤ len)
+
+closed-inside : (note : List ℕ) (kind : EventKind) (still : List Event) (e : Event) (xs : List Segment) → closes kind still e ≡ true → Placed note e → AllByRecursion (Inside (length note)) xs → AllByRecursion (Inside (length note)) (closed_by kind still e ++ xs)
+closed-inside note Enter still e xs c p h = h
+closed-inside note Exit [] e xs c p h = h
+closed-inside note Exit (o ∷ still) e xs c p h =
+    ((ltb-true o.point.index e.point.index (and_parts (same_name o.name e.name) (ltb o.point.index e.point.index) c).1, p.inside), h)
+
+spans-inside : (note : List ℕ) (still es : List Event) → nests still es ≡ true → AllByRecursion (Placed note) es → AllByRecursion (Inside (length note)) (spans_from still es)
+spans-inside note still [] n p = tt
+spans-inside note still (e ∷ es) n p =
+    let q = and_parts (closes e.kind still e) (nests (open_then e.kind still e) es) n in
+    closed-inside note e.kind still e (spans_from (open_then e.kind still e) es) q.0 p.0 (spans-inside note (open_then e.kind still e) es q.1 p.1)
+
+-- ---- in turn
+
+earlier : (a b len : ℕ) (xs : List Span) → a ≤ b → IsInTurn b len xs → IsInTurn a len xs
+earlier a b len [] le t = tt
+earlier a b len (x ∷ xs) le t = (omega (arith, t.0), t.1, t.2, t.3)
+
+-- a span that is no link, before others
+one-in_turn : (n : Name) (a from to len : ℕ) (xs : List Span) → a ≤ from → from < to → to ≤ len → IsInTurn to len xs → IsInTurn a len (address n from to ++ xs)
+one-in_turn name.Data a from to len xs low some high t = earlier a to len xs (omega arith) t
+one-in_turn name.LineEnding a from to len xs low some high t = earlier a to len xs (omega arith) t
+one-in_turn name.Link a from to len xs low some high t = earlier a to len xs (omega arith) t
+one-in_turn (name.Address kind) a from to len xs low some high t = (low, omega arith, high, t)
+
+link-no_address : (n : Name) (from to : ℕ) → is_link n ≡ true → address n from to ≡ []
+link-no_address name.Data from to e = refl
+link-no_address name.LineEnding from to e = refl
+link-no_address name.Link from to e = refl
+link-no_address (name.Address kind) from to e = absurd (true≢false (sym e))
+
+-- the leaves of a list, as it is filtered
+abbrev leaves_in : List Segment → List Segment
+leaves_in xs = with_name (λ n. not (is_link n)) xs
+
+written-in_turn : (a len : ℕ) (xs : List Segment) → AllByRecursion (Inside len) xs → in_order a (leaves_in xs) ≡ true → IsInTurn a len (addresses_of xs)
+written-in_turn a len [] h o = tt
+written-in_turn a len (x ∷ xs) h o =
+    ⊎_elim
+    (λ l.
+    let skipped : leaves_in (x ∷ xs) ≡ leaves_in xs = ap (λ v. cond (not v) (x ∷ leaves_in xs) (leaves_in xs)) l in
+    subst (λ ys. IsInTurn a len (ys ++ addresses_of xs)) (sym (link-no_address x.name x.from x.to l)) (written-in_turn a len xs h.1 (ap (in_order a) (sym skipped) ∙ o)))
+    (λ l.
+    let kept : leaves_in (x ∷ xs) ≡ x ∷ leaves_in xs = ap (λ v. cond (not v) (x ∷ leaves_in xs) (leaves_in xs)) l in
+    let p = and_parts (leb a x.from) (in_order x.to (leaves_in xs)) (ap (in_order a) (sym kept) ∙ o) in
+    one-in_turn x.name a x.from x.to len (addresses_of xs) (leb-true a x.from p.0) h.0.0 h.0.1 (written-in_turn x.to len xs h.1 p.1))
+    (cases_Bool (is_link x.name))
+
+-- ---- how many
+
+abbrev LongSpan : Span → Type 0
+LongSpan x = x.from + 3 ≤ x.to
+
+long_one : (n : Name) (from to : ℕ) (web mail : List Segment) (rest : List Span) → AllByRecursion Long (cond (is_web_address n) (record { name = n; from = from; to = to } ∷ web) web) → AllByRecursion Long (cond (is_mail_address n) (record { name = n; from = from; to = to } ∷ mail) mail) → (AllByRecursion Long web → AllByRecursion Long mail → AllByRecursion LongSpan rest) → AllByRecursion LongSpan (address n from to ++ rest)
+long_one name.Data from to web mail rest w m h = h w m
+long_one name.LineEnding from to web mail rest w m h = h w m
+long_one name.Link from to web mail rest w m h = h w m
+long_one (name.Address Www) from to web mail rest w m h = (w.0, h w.1 m)
+long_one (name.Address Protocol) from to web mail rest w m h = (w.0, h w.1 m)
+long_one (name.Address Email) from to web mail rest w m h = (m.0, h w m.1)
+long_one (name.Address Mailto) from to web mail rest w m h = (m.0, h w m.1)
+long_one (name.Address Xmpp) from to web mail rest w m h = (m.0, h w m.1)
+
+all_long : (xs : List Segment) → AllByRecursion Long (with_name is_web_address xs) → AllByRecursion Long (with_name is_mail_address xs) → AllByRecursion LongSpan (addresses_of xs)
+all_long [] w m = tt
+all_long (x ∷ xs) w m = long_one x.name x.from x.to (with_name is_web_address xs) (with_name is_mail_address xs) (addresses_of xs) w m (all_long xs)
+
+three_each : (c len : ℕ) (xs : List Span) → c ≤ len → IsInTurn c len xs → AllByRecursion LongSpan xs → c + 3 * length xs ≤ len
+three_each c len [] le t h = omega arith
+three_each c len (x ∷ xs) le t h =
+    let later = three_each x.to len xs t.2 t.3 h.1 in
+    omega (arith, t.0, h.0)
+
+-- ---- of resolved events
+
+pub record Writable (note : List ℕ) (es : List Event) : Type 0 where
+  pub nested : nests [] es ≡ true
+  pub flat : only_links_hold [] es ≡ true
+  pub in_turn : IsInTurn 0 (length note) (written_spans es)
+  pub few : 3 * length (written_spans es) ≤ length note
+
+pub writable : (note : List ℕ) (es : List Event) → IsResolved note es → Writable note es
+writable note es r =
+    let turn = written-in_turn 0 (length note) (spans es) (spans-inside note [] es r.lawful.nested r.lawful.placed) r.read.ordered in
+    let web = subst (AllByRecursion Long) (sym r.read.web) (links-long r.member note) in
+    let mail = subst (AllByRecursion Long) (sym r.resolved.mail) (mail-long note (marked_spans r.member note r.links) (data_of r.member note)) in
+    record {
+      nested = r.lawful.nested;
+      flat = r.read.flat;
+      in_turn = turn;
+      few = omega (arith, three_each 0 (length note) (written_spans es) (omega arith) turn (all_long (spans es) web mail));
+    }
+
+pub written_few : (note : List ℕ) (es : List Event) → length note ≤ 1024 → Writable note es → length (written_spans es) ≤ 341
+written_few note es short w = omega (arith, w.few)
+
+-- ---- spans at the front of a table
+
+pub record AtFront (xs table : List Span) (n : ℕ) : Type 0 where
+  pub within : n ≤ length table
+  pub are : take n table ≡ xs
+  pub count : n ≡ length (take n table)
+
+pub at_front : (xs lent table : List Span) (n : ℕ) → length xs ≤ length lent → n ≡ length xs → table ≡ overwritten xs lent → AtFront xs table n
+at_front xs lent table n room count is =
+    let e = is ∙ cond-true (fits xs lent) (xs ++ drop (length xs) lent) lent (le-leb (length xs) (length lent) room) in
+    let are = ap (take n) e ∙ take_at xs (drop (length xs) lent) n (sym count) in
+    record {
+      within = omega (arith, ap length e, length-append xs (drop (length xs) lent));
+      are = are;
+      count = count ∙ ap length (sym are);
+    }
+
+abbrev pub no_spans : List Span
+no_spans = replicate 341 (record { kind = Email; from = 0; to = 0 })
+
+pub in_table : (xs table : List Span) (n : ℕ) → length xs ≤ 341 → n ≡ length xs → table ≡ overwritten xs no_spans → AtFront xs table n
+in_table xs table n few count is =
+    let size : length no_spans ≡ 341 = refl in
+    at_front xs no_spans table n (omega arith) count is
