@@ -1,6 +1,9 @@
 -- The written spans of resolved events lie in turn in the note, and are few.
 -- Assumes nothing.
-use Rattle.std.proofs.Common.{◌≡◌, ℕ, ◌+◌, ◌*◌, ◌<◌, ◌≤◌, true, cond, not, ltb, leb, List, [], ◌∷◌, ◌++◌, length, take, drop, replicate, sym, refl, ap, ◌∙◌, subst, ⊎_elim, arith}
+use Rattle.std.proofs.Common.{◌≡◌, ℕ, ◌+◌, ◌*◌, ◌<◌, ◌≤◌, Bool, true, cond, not, ltb, leb, List, [], ◌∷◌, ◌++◌, length, take, drop, replicate, sym, refl, ap, ◌∙◌, subst, ⊎_elim, arith}
+use mathlib.Core.Bool.{Bool-set}
+use mathlib.Core.Logic.{∥∥₁_elim, ∥∥₁_map}
+use native.Mathlib.Bridge.{le_prop}
 use Rattle.std.specs.List.{AllByRecursion}
 use Rattle.std.proofs.lemmas.Bool.{cases_Bool, cond-true, and_parts, ltb-true, leb-true, le-leb, true≢false}
 use Rattle.std.proofs.lemmas.List.{length-append, take_at}
@@ -14,7 +17,12 @@ use Rattle.machine.specs.declared.events.Name.{Name}
 use Rattle.machine.specs.declared.events.Name.TheVariants as name
 use Rattle.machine.specs.Laws.{Segment, same_name}
 use Rattle.marked.specs.Marks.{IsInTurn}
+use Rattle.calls.specs.declared.phases.Phase.{Phase}
+use Rattle.calls.specs.declared.phases.Phase.TheVariants.{Empty, Loaded, Ending, Ended, Resolved}
+use Rattle.calls.specs.Calls.{Model, is_over}
 use Rattle.calls.specs.Claims.{marked_spans, data_of}
+use Rattle.calls.specs.Moments.{AlwaysTrue}
+use Rattle.calls.specs.Steps.{held, is_resolved, most_events}
 use Rattle.calls.specs.EventLists.{is_link, is_web_address, is_mail_address, open_then, closes, nests, only_links_hold, closed_by, spans_from, spans, with_name, in_order, Placed}
 use Rattle.written.specs.Spans.{address, addresses_of, written_spans, IsResolved}
 use Rattle.written.proofs.Sizes.{Long, links-long, mail-long}
@@ -100,23 +108,33 @@ three_each c len (x ∷ xs) le t h =
 
 -- ---- of resolved events
 
+in_turn_prop : (c len : ℕ) (xs : List Span) → IsProp (IsInTurn c len xs)
+in_turn_prop c len [] = hlevel
+in_turn_prop c len (x ∷ xs) = hlevel (le_prop, in_turn_prop x.to len xs)
+
 pub record Writable (note : List ℕ) (es : List Event) : Type 0 where
   pub nested : nests [] es ≡ true
   pub flat : only_links_hold [] es ≡ true
   pub in_turn : IsInTurn 0 (length note) (written_spans es)
   pub few : 3 * length (written_spans es) ≤ length note
 
-pub writable : (note : List ℕ) (es : List Event) → IsResolved note es → Writable note es
-writable note es r =
-    let turn = written-in_turn 0 (length note) (spans es) (spans-inside note [] es r.lawful.nested r.lawful.placed) r.read.ordered in
-    let web = subst (AllByRecursion Long) (sym r.read.web) (links-long r.member note) in
-    let mail = subst (AllByRecursion Long) (sym r.resolved.mail) (mail-long note (marked_spans r.member note r.links) (data_of r.member note)) in
-    record {
-      nested = r.lawful.nested;
-      flat = r.read.flat;
-      in_turn = turn;
-      few = omega (arith, three_each 0 (length note) (written_spans es) (omega arith) turn (all_long (spans es) web mail));
-    }
+module _ (note : List ℕ) (es : List Event) where
+  resolved-in_turn : IsResolved note es → IsInTurn 0 (length note) (written_spans es)
+  resolved-in_turn r = written-in_turn 0 (length note) (spans es) (spans-inside note [] es r.lawful.nested r.lawful.placed) r.read.ordered
+
+  resolved_few : IsResolved note es → 3 * length (written_spans es) ≤ length note
+  resolved_few r =
+      let web = subst (AllByRecursion Long) (sym r.read.web) (links-long r.member note) in
+      let mail = subst (AllByRecursion Long) (sym r.resolved.mail) (mail-long note (marked_spans r.member note r.links) (data_of r.member note)) in
+      omega (arith, three_each 0 (length note) (written_spans es) (omega arith) (resolved-in_turn r) (all_long (spans es) web mail))
+
+  pub writable : ∥ IsResolved note es ∥₁ → Writable note es
+  writable h = record {
+    nested = ∥∥₁_elim h (Bool-set (nests [] es) true) (λ r. r.lawful.nested);
+    flat = ∥∥₁_elim h (Bool-set (only_links_hold [] es) true) (λ r. r.read.flat);
+    in_turn = ∥∥₁_elim h (in_turn_prop 0 (length note) (written_spans es)) resolved-in_turn;
+    few = ∥∥₁_elim h le_prop resolved_few;
+  }
 
 pub written_few : (note : List ℕ) (es : List Event) → length note ≤ 1024 → Writable note es → length (written_spans es) ≤ 341
 written_few note es short w = omega (arith, w.few)
@@ -145,3 +163,22 @@ pub in_table : (xs table : List Span) (n : ℕ) → length xs ≤ 341 → n ≡ 
 in_table xs table n few count is =
     let size : length no_spans ≡ 341 = refl in
     at_front xs no_spans table n (omega arith) count is
+
+-- ---- of a reader
+
+resolved_over : (p : Phase) → is_resolved p ≡ true → is_over p ≡ true
+resolved_over Empty e = absurd (true≢false (sym e))
+resolved_over Loaded e = absurd (true≢false (sym e))
+resolved_over Ending e = absurd (true≢false (sym e))
+resolved_over Ended e = absurd (true≢false (sym e))
+resolved_over Resolved e = refl
+
+module _ (member : ℕ → Bool) (m : Model) (always : ∥ AlwaysTrue member m ∥₁) where
+  pub held_short : length m.machine.note ≤ 1024
+  held_short = ∥∥₁_elim always le_prop (λ a. a.short)
+
+  pub held_few : length (held m) ≤ most_events
+  held_few = ∥∥₁_elim always le_prop (λ a. a.fits)
+
+  pub held-resolved : is_resolved m.phase ≡ true → ∥ IsResolved m.machine.note (held m) ∥₁
+  held-resolved e = ∥∥₁_map always (λ a. record { member = member; links = m.links; lawful = a.lawful; read = a.read (resolved_over m.phase e); resolved = a.resolved e })

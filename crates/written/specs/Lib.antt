@@ -1,3 +1,4 @@
+pub mod Forms
 pub mod Fronts
 pub mod Listing
 pub mod Numbers

@@ -25,7 +25,7 @@ pub fn mark_events(
     out: &mut [u8],
 ) -> Result<usize, Fault>
     requires short { length note.now ≤ LONGEST_NOTE }
-    requires resolved { IsResolved note.now events.now }
+    requires resolved { ∥ IsResolved note.now events.now ∥₁ }
     ensures answer { result ≡ written_count (marked_copy note.now (written_spans events.now)) out.old }
     ensures written { out.new ≡ overwritten (marked_copy note.now (written_spans events.now)) out.old }
     ensures as_new { OnOk result (AsNew map.new) }

@@ -2,9 +2,12 @@
 #![tactic(auto)]
 
 pub mod copies;
+pub mod forms;
 mod fronts;
 pub mod lines;
 pub mod listing;
 mod numbers;
 pub mod saved;
 mod spans;
+
+pub use forms::{listing_lines, marked_copy, saved_list};

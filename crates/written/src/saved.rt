@@ -20,7 +20,7 @@ use text::{Fault, Span, SpanKind};
 // Writes the saved list of resolved events to the front of `out`, and answers how many bytes that is. Refused is 16 an `out`
 // that is too short. Nothing is changed then.
 pub fn save_events(events: &[Event], out: &mut [u8]) -> Result<usize, Fault>
-    requires { (note : List ℕ) × (length note ≤ LONGEST_NOTE) × IsResolved note events.now }
+    requires { (note : List ℕ) × (length note ≤ LONGEST_NOTE) × ∥ IsResolved note events.now ∥₁ }
     ensures answer { result ≡ written_count (saved_list (written_spans events.now)) out.old }
     ensures written { out.new ≡ overwritten (saved_list (written_spans events.now)) out.old }
     ensures read_back { read_list (saved_list (written_spans events.now)) ≡ Some (written_spans events.now) }
