@@ -1,3 +1,4 @@
+pub mod Computed
 pub mod Groups
 pub mod LineEnds
 pub mod Placed

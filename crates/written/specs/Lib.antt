@@ -1,3 +1,4 @@
+pub mod FormExamples
 pub mod Forms
 pub mod Fronts
 pub mod Listing

@@ -1,15 +1,13 @@
 // The calls that write a form of what a reader holds: docs/FORMATS.md, sections 3 to 5. Refused, in this order, are 12 unless
 // the reader is resolved, and 16 an `out` that is too short. A refused call changes nothing.
-ghost use Rattle.std.specs.Prelude.{◌≡◌, true, Some, OnErr, OnOk};
+ghost use Rattle.std.specs.Prelude.{◌≡◌, Some, OnErr, OnOk};
 ghost use Rattle.edit_map.specs.View.{AsNew};
-ghost use Rattle.marked.specs.Marked.{marked_copy, OnlyMarks};
-ghost use Rattle.calls.specs.Steps.{is_resolved};
+ghost use Rattle.marked.specs.Marked.{OnlyMarks};
 ghost use Rattle.reader.specs.View.{events_held, view};
-ghost use Rattle.written.specs.Forms.{form_answer, form_written};
-ghost use Rattle.written.specs.Listing.{event_lines, ALineForEachEvent};
+ghost use Rattle.written.specs.Forms.{spans_held, saved_form, marked_form, listed_form, form_answer, form_written, IfResolved};
+ghost use Rattle.written.specs.Listing.{ALineForEachEvent};
 ghost use Rattle.written.specs.Numbers.{NumbersAreShortest};
-ghost use Rattle.written.specs.SavedLists.{saved_list, read_list};
-ghost use Rattle.written.specs.Spans.{written_spans};
+ghost use Rattle.written.specs.SavedLists.{read_list};
 
 use crate::copies::mark_events;
 use crate::listing::list_events;
@@ -22,9 +20,9 @@ use text::Fault;
 // Writes the saved list to the front of `out`, and answers how many bytes that is.
 #[tactic(auto, using(crate::proofs::Groups::numbers_are_shortest))]
 pub fn saved_list<S: PunctuationSet>(reader: &Reader<S>, out: &mut [u8]) -> Result<usize, Fault>
-    ensures answer { result ≡ form_answer (view reader.now) (saved_list (written_spans (events_held reader.now))) out.old }
-    ensures written { out.new ≡ form_written (view reader.now) (saved_list (written_spans (events_held reader.now))) out.old }
-    ensures read_back { is_resolved (view reader.now).phase ≡ true → read_list (saved_list (written_spans (events_held reader.now))) ≡ Some (written_spans (events_held reader.now)) }
+    ensures answer { result ≡ form_answer saved_form (view reader.now) out.old }
+    ensures written { out.new ≡ form_written saved_form (view reader.now) out.old }
+    ensures read_back { IfResolved (view reader.now) (read_list (saved_form (view reader.now)) ≡ Some (spans_held (view reader.now))) }
     ensures numbers_are_shortest { NumbersAreShortest }
 {
     if !reader.phase().is_resolved() {
@@ -40,11 +38,11 @@ pub fn marked_copy<S: PunctuationSet>(
     reader: &Reader<S>,
     out: &mut [u8],
 ) -> Result<usize, Fault>
-    ensures answer { result ≡ form_answer (view reader.now) (marked_copy (view reader.now).machine.note (written_spans (events_held reader.now))) out.old }
-    ensures written { out.new ≡ form_written (view reader.now) (marked_copy (view reader.now).machine.note (written_spans (events_held reader.now))) out.old }
+    ensures answer { result ≡ form_answer marked_form (view reader.now) out.old }
+    ensures written { out.new ≡ form_written marked_form (view reader.now) out.old }
     ensures as_new { OnOk result (AsNew map.new) }
     ensures refused { OnErr result (map.new ≡ map.old) }
-    ensures only_marks { is_resolved (view reader.now).phase ≡ true → OnlyMarks (view reader.now).machine.note (written_spans (events_held reader.now)) }
+    ensures only_marks { IfResolved (view reader.now) (OnlyMarks (view reader.now).machine.note (spans_held (view reader.now))) }
 {
     if !reader.phase().is_resolved() {
         return Err(Fault::NotResolved);
@@ -55,8 +53,8 @@ pub fn marked_copy<S: PunctuationSet>(
 // Writes the listing to the front of `out`, and answers how many bytes that is.
 #[tactic(auto, using(crate::proofs::LineEnds::a_line_for_each_event))]
 pub fn listing_lines<S: PunctuationSet>(reader: &Reader<S>, out: &mut [u8]) -> Result<usize, Fault>
-    ensures answer { result ≡ form_answer (view reader.now) (event_lines (events_held reader.now)) out.old }
-    ensures written { out.new ≡ form_written (view reader.now) (event_lines (events_held reader.now)) out.old }
+    ensures answer { result ≡ form_answer listed_form (view reader.now) out.old }
+    ensures written { out.new ≡ form_written listed_form (view reader.now) out.old }
     ensures a_line_for_each_event { ALineForEachEvent (events_held reader.now) }
 {
     if !reader.phase().is_resolved() {

@@ -2,6 +2,7 @@
 #![tactic(auto)]
 
 pub mod copies;
+pub mod examples;
 pub mod forms;
 mod fronts;
 pub mod lines;
