@@ -9,7 +9,8 @@ use Rattle.calls.specs.Calls.{Model}
 use Rattle.webspans.specs.declared.lines.Answered.{Answered}
 use Rattle.webspans.specs.declared.plans.Plan.{Plan}
 use Rattle.webspans.specs.Readings.{ReadThrough}
-use Rattle.webspans.specs.Report.{newline, event_lines, call_lines, steps_line, PrintedAs, Printed}
+use Rattle.webspans.specs.Report.{call_lines, steps_line, PrintedAs, Printed}
+use Rattle.written.specs.Listing.{newline, event_lines}
 
 -- what the check of a note's length tells
 not_long_as : (n k : ℕ) (long : Bool) → Ok n ≡ cond long (Err NoteTooLong) (Ok k) → long ≡ false

@@ -10,7 +10,8 @@ use Rattle.findings.specs.Pieces.{segment_events}
 use Rattle.calls.specs.Calls.{loaded}
 use Rattle.webspans.specs.declared.lines.Answered.{Answered}
 use Rattle.webspans.specs.Readings.{calls_from}
-use Rattle.webspans.specs.Report.{call_lines, event_lines, steps_line}
+use Rattle.webspans.specs.Report.{call_lines, steps_line}
+use Rattle.written.specs.Listing.{event_lines}
 
 abbrev answered : Until → ℕ → Bool → Answered
 answered u steps done = record { until = u; ran = record { steps = steps; done = done } }

@@ -1,35 +1,9 @@
--- What the lines of the report say.
+-- What the lines of the report say, but for those of events.
 -- Assumes nothing.
 use Rattle.std.specs.Prelude.{ℕ, Bool, cond, List, ◌++◌, codes, decimal, ◌==◌}
-use Rattle.text.specs.Shown.{kind_shown}
 use Rattle.machine.specs.declared.cursors.Until.{Until}
 use Rattle.machine.specs.declared.cursors.Until.TheVariants.{Mark, End}
-use Rattle.machine.specs.declared.events.Event.{Event}
-use Rattle.machine.specs.declared.events.EventKind.{EventKind}
-use Rattle.machine.specs.declared.events.EventKind.TheVariants.{Enter, Exit}
-use Rattle.machine.specs.declared.events.Name.{Name}
-use Rattle.machine.specs.declared.events.Name.TheVariants as name
 use Rattle.webspans.specs.declared.lines.Answered.{Answered}
-
--- ---- an event
-
-abbrev pub edge_shown : EventKind → List ℕ
-edge_shown Enter = codes "enter"
-edge_shown Exit = codes "exit"
-
-abbrev pub name_shown : Name → List ℕ
-name_shown name.Data = codes "data"
-name_shown name.LineEnding = codes "line-ending"
-name_shown name.Link = codes "link"
-name_shown (name.Address kind) = kind_shown kind
-
--- as `enter www 1:3 2`
-abbrev pub event_shown : Event → List ℕ
-event_shown e =
-    edge_shown e.kind ++ (codes " " ++ (name_shown e.name ++ (codes " " ++ (decimal e.point.line ++ (codes ":"
-    ++ (decimal e.point.column ++ (codes " " ++ decimal e.point.index)))))))
-
--- ---- steps, and what a call answered
 
 abbrev pub step_noun : ℕ → List ℕ
 step_noun n = cond (n == 1) (codes "step") (codes "steps")

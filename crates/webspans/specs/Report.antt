@@ -1,24 +1,17 @@
 -- What the program prints of a note.
 -- Assumes nothing.
-use Rattle.std.specs.Prelude.{◌≡◌, ℕ, ◌-◌, ◌^◌, min, Bool, true, false, cond, List, [], ◌∷◌, ◌++◌, codes}
+use Rattle.std.specs.Prelude.{◌≡◌, ℕ, ◌-◌, ◌^◌, min, Bool, true, false, cond, List, [], ◌∷◌, ◌++◌}
 use Rattle.text.specs.declared.refusals.Fault.TheVariants.{NoteTooLong}
 use Rattle.text.specs.Notes.{too_long}
 use Rattle.text.specs.Shown.{refusal_shown}
 use Rattle.punctuation.specs.RangeLists.{house}
 use Rattle.rules.specs.Segments.{segments}
-use Rattle.machine.specs.declared.events.Event.{Event}
 use Rattle.findings.specs.Pieces.{segment_events}
+use Rattle.written.specs.Listing.{newline, event_lines}
 use Rattle.webspans.specs.declared.lines.Answered.{Answered}
 use Rattle.webspans.specs.declared.plans.Plan.{Plan}
-use Rattle.webspans.specs.Lines.{event_shown, steps_shown, answered_shown}
+use Rattle.webspans.specs.Lines.{steps_shown, answered_shown}
 use Rattle.webspans.specs.Readings.{steps_made, AllCalls, TakesSteps}
-
-abbrev pub newline : List ℕ
-newline = codes "\n"
-
-abbrev pub event_lines : List Event → List ℕ
-event_lines [] = []
-event_lines (e ∷ es) = (event_shown e ++ newline) ++ event_lines es
 
 abbrev pub call_lines : List Answered → List ℕ
 call_lines [] = []

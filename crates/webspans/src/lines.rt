@@ -1,52 +1,9 @@
-// What the lines of the report say.
+// What the lines of the report say, but for those of events.
 ghost use Rattle.std.specs.Prelude.{◌≡◌, Some};
-ghost use Rattle.webspans.specs.Lines.{edge_shown, name_shown, event_shown, step_noun, steps_shown, state_shown, answered_shown};
+ghost use Rattle.webspans.specs.Lines.{step_noun, steps_shown, state_shown, answered_shown};
 
-use machine::{Event, EventKind, Name, Ran, Until};
+use machine::{Ran, Until};
 use std::fmt;
-
-// An event as the listing has it.
-#[derive(Clone, Copy)]
-pub struct Listed(pub Event);
-
-impl fmt::Display for Listed {
-    ghost output = { λ listed. Some (event_shown listed.0) };
-
-    fn fmt<W: fmt::Write>(&self, f: &mut fmt::Formatter<W>) -> fmt::Result {
-        let Event { kind, name, point } = self.0;
-        let edge = edge_word(kind);
-        let name = SpanName(name);
-        let line = point.line;
-        let column = point.column;
-        let index = point.index;
-        write!(f, "{edge} {name} {line}:{column} {index}")
-    }
-}
-
-fn edge_word(kind: EventKind) -> &'static str
-    ensures { result.now ≡ edge_shown kind }
-{
-    match kind {
-        EventKind::Enter => "enter",
-        EventKind::Exit => "exit",
-    }
-}
-
-#[derive(Clone, Copy)]
-struct SpanName(Name);
-
-impl fmt::Display for SpanName {
-    ghost output = { λ name. Some (name_shown name.0) };
-
-    fn fmt<W: fmt::Write>(&self, f: &mut fmt::Formatter<W>) -> fmt::Result {
-        match self.0 {
-            Name::Data => f.write_str("data"),
-            Name::LineEnding => f.write_str("line-ending"),
-            Name::Link => f.write_str("link"),
-            Name::Address(kind) => write!(f, "{kind}"),
-        }
-    }
-}
 
 // State calls made.
 #[derive(Clone, Copy)]

@@ -1,8 +1,9 @@
 // What the program prints of a note.
 ghost use Rattle.std.specs.Prelude.{◌≡◌, ◌++◌, string_bytes, IfOk, OnOk};
-ghost use Rattle.webspans.specs.Report.{call_lines, event_lines, total, steps_line, Printed};
+ghost use Rattle.written.specs.Listing.{event_lines};
+ghost use Rattle.webspans.specs.Report.{call_lines, total, steps_line, Printed};
 
-use crate::lines::{Answered, Listed, Steps};
+use crate::lines::{Answered, Steps};
 use crate::plans::Plan;
 use crate::reading::read_through;
 use machine::Event;
@@ -11,6 +12,7 @@ use reader::Reader;
 use std::alloc::{AllocError, Global};
 use std::fmt::Write;
 use text::notes::check_length;
+use written::lines::Listed;
 
 pub fn make_report(heap: Global, note: &[u8], plan: Plan) -> Result<String, AllocError>
     ensures { IfOk result (λ s. Printed plan note.now (string_bytes s)) }

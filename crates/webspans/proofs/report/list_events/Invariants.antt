@@ -1,5 +1,5 @@
 use Rattle.std.proofs.Common.{◌≡◌, ◌++◌, drop, string_bytes}
-use Rattle.webspans.specs.Report.{event_lines}
+use Rattle.written.specs.Listing.{event_lines}
 use Rattle.webspans.proofs.report.list_events.Given as goal
 
 -- what is written, and the lines of what is left

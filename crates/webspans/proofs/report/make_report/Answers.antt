@@ -1,6 +1,7 @@
 use Rattle.std.proofs.Common.{◌≡◌, ◌++◌, string_bytes, [], cond, sym, ap, ◌∙◌}
 use Rattle.std.proofs.lemmas.Bool.{cond-true, cond-false}
-use Rattle.webspans.specs.Report.{call_lines, event_lines, steps_line}
+use Rattle.webspans.specs.Report.{call_lines, steps_line}
+use Rattle.written.specs.Listing.{event_lines}
 use Rattle.webspans.proofs.Reports.{not_long, reports}
 use Rattle.webspans.proofs.report.make_report.Goals as goal
 use Rattle.webspans.proofs.report.make_report.Goals.{then-plan+in_ok-list_calls, else-plan}
