@@ -9,6 +9,6 @@ pub every_example_comes_out : EveryExampleComesOut
 unfolding number digits
 every_example_comes_out = (
   (refl, (refl, (refl, (refl, (refl, (refl, (refl, (refl, tt)))))))),
-  ((refl, refl), ((refl, refl), ((refl, refl), ((refl, refl), ((refl, refl), ((refl, refl), ((refl, refl), ((refl, refl), ((refl, refl), ((refl, refl), ((refl, refl), ((refl, refl), ((refl, refl), ((refl, refl), tt)))))))))))))),
+  ((refl, refl), ((refl, refl), ((refl, refl), ((refl, refl), ((refl, refl), ((refl, refl), ((refl, refl), ((refl, refl), ((refl, refl), ((refl, refl), ((refl, refl), ((refl, refl), ((refl, refl), ((refl, refl), ((refl, refl), tt))))))))))))))),
   (refl, (refl, (refl, (refl, (refl, tt))))),
 )

@@ -1,6 +1,6 @@
 -- The written spans of resolved events lie in turn in the note, and are few.
 -- Assumes nothing.
-use Rattle.std.proofs.Common.{◌≡◌, ℕ, ◌+◌, ◌*◌, ◌<◌, ◌≤◌, Bool, true, cond, not, ltb, leb, List, [], ◌∷◌, ◌++◌, length, take, drop, replicate, sym, refl, ap, ◌∙◌, subst, ⊎_elim, arith}
+use Rattle.std.proofs.Common.{◌≡◌, ℕ, ◌+◌, ◌*◌, ◌<◌, ◌≤◌, Bool, true, cond, not, ltb, leb, List, [], ◌∷◌, ◌++◌, map, filter, length, take, drop, replicate, sym, refl, ap, ◌∙◌, subst, ⊎_elim, arith}
 use mathlib.Core.Bool.{Bool-set}
 use mathlib.Core.Logic.{∥∥₁_elim, ∥∥₁_map}
 use native.Mathlib.Bridge.{le_prop}
@@ -23,7 +23,10 @@ use Rattle.calls.specs.Calls.{Model, is_over}
 use Rattle.calls.specs.Claims.{marked_spans, data_of}
 use Rattle.calls.specs.Moments.{AlwaysTrue}
 use Rattle.calls.specs.Steps.{held, is_resolved, most_events}
-use Rattle.calls.specs.EventLists.{is_link, is_web_address, is_mail_address, open_then, closes, nests, only_links_hold, closed_by, spans_from, spans, with_name, in_order, Placed}
+use Rattle.calls.specs.Links.{as_named}
+use Rattle.calls.specs.EventLists.{span, is_link, is_web_address, is_mail_address, open_then, closes, nests, only_links_hold, closed_by, spans_from, spans, with_name, in_order, Placed}
+use Rattle.rules.specs.Web.{is_web}
+use Rattle.written.specs.Named.{NamedByTheRules}
 use Rattle.written.specs.Spans.{address, addresses_of, written_spans, IsResolved}
 use Rattle.written.proofs.Sizes.{Long, links-long, mail-long}
 
@@ -164,6 +167,43 @@ in_table xs table n few count is =
     let size : length no_spans ≡ 341 = refl in
     at_front xs no_spans table n (omega arith) count is
 
+-- ---- what the rules name
+
+web_kept : (n : Name) (from to : ℕ) (xs : List Segment) (ys : List Span) → map as_named (filter (λ y. is_web y.kind) ys) ≡ xs → map as_named (filter (λ y. is_web y.kind) (address n from to ++ ys)) ≡ cond (is_web_address n) (span n from to ∷ xs) xs
+web_kept name.Data from to xs ys h = h
+web_kept name.LineEnding from to xs ys h = h
+web_kept name.Link from to xs ys h = h
+web_kept (name.Address Www) from to xs ys h = ap (λ l. span (name.Address Www) from to ∷ l) h
+web_kept (name.Address Protocol) from to xs ys h = ap (λ l. span (name.Address Protocol) from to ∷ l) h
+web_kept (name.Address Email) from to xs ys h = h
+web_kept (name.Address Mailto) from to xs ys h = h
+web_kept (name.Address Xmpp) from to xs ys h = h
+
+mail_kept : (n : Name) (from to : ℕ) (xs : List Segment) (ys : List Span) → map as_named (filter (λ y. not (is_web y.kind)) ys) ≡ xs → map as_named (filter (λ y. not (is_web y.kind)) (address n from to ++ ys)) ≡ cond (is_mail_address n) (span n from to ∷ xs) xs
+mail_kept name.Data from to xs ys h = h
+mail_kept name.LineEnding from to xs ys h = h
+mail_kept name.Link from to xs ys h = h
+mail_kept (name.Address Www) from to xs ys h = h
+mail_kept (name.Address Protocol) from to xs ys h = h
+mail_kept (name.Address Email) from to xs ys h = ap (λ l. span (name.Address Email) from to ∷ l) h
+mail_kept (name.Address Mailto) from to xs ys h = ap (λ l. span (name.Address Mailto) from to ∷ l) h
+mail_kept (name.Address Xmpp) from to xs ys h = ap (λ l. span (name.Address Xmpp) from to ∷ l) h
+
+web-named : (xs : List Segment) → map as_named (filter (λ y. is_web y.kind) (addresses_of xs)) ≡ with_name is_web_address xs
+web-named [] = refl
+web-named (x ∷ xs) = web_kept x.name x.from x.to (with_name is_web_address xs) (addresses_of xs) (web-named xs)
+
+mail-named : (xs : List Segment) → map as_named (filter (λ y. not (is_web y.kind)) (addresses_of xs)) ≡ with_name is_mail_address xs
+mail-named [] = refl
+mail-named (x ∷ xs) = mail_kept x.name x.from x.to (with_name is_mail_address xs) (addresses_of xs) (mail-named xs)
+
+pub named : (note : List ℕ) (es : List Event) (r : IsResolved note es) → NamedByTheRules r.member note r.links (written_spans es)
+named note es r = record {
+  in_turn = resolved-in_turn note es r;
+  web = web-named (spans es) ∙ r.read.web;
+  mail = mail-named (spans es) ∙ r.resolved.mail;
+}
+
 -- ---- of a reader
 
 resolved_over : (p : Phase) → is_resolved p ≡ true → is_over p ≡ true
@@ -182,3 +222,7 @@ module _ (member : ℕ → Bool) (m : Model) (always : ∥ AlwaysTrue member m �
 
   pub held-resolved : is_resolved m.phase ≡ true → ∥ IsResolved m.machine.note (held m) ∥₁
   held-resolved e = ∥∥₁_map always (λ a. record { member = member; links = m.links; lawful = a.lawful; read = a.read (resolved_over m.phase e); resolved = a.resolved e })
+
+  pub held_named : is_resolved m.phase ≡ true → ∥ NamedByTheRules member m.machine.note m.links (written_spans (held m)) ∥₁
+  held_named e =
+      ∥∥₁_map always (λ a. named m.machine.note (held m) (record { member = member; links = m.links; lawful = a.lawful; read = a.read (resolved_over m.phase e); resolved = a.resolved e }))

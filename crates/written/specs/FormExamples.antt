@@ -54,6 +54,8 @@ examples =
     example [] [] [] [] ∷
     example (codes "hello") [] [] (codes "hello") ∷
     example (codes "a www.b") [] (0x00 ∷ 0x02 ∷ 0x05 ∷ []) (codes "a {wwww.b}") ∷
+    -- no span is shorter
+    example (codes "www. a") [] (0x00 ∷ 0x00 ∷ 0x03 ∷ []) (codes "{wwww}. a") ∷
     example (codes "hello@world.com") [] (0x02 ∷ 0x00 ∷ 0x0F ∷ []) (codes "{ehello@world.com}") ∷
     example (codes "see mailto:x@y.z now") [] (0x03 ∷ 0x04 ∷ 0x0C ∷ []) (codes "see {mmailto:x@y.z} now") ∷
     example (97 ∷ 13 ∷ 10 ∷ codes "b@c.d") [] (0x02 ∷ 0x03 ∷ 0x05 ∷ []) (97 ∷ 13 ∷ 10 ∷ codes "{eb@c.d}") ∷

@@ -1,6 +1,6 @@
 -- The written forms of what a reader holds; what a call that writes one answers, and what the lent slice holds then.
 -- Assumes nothing.
-use Rattle.std.specs.Prelude.{◌≡◌, ℕ, true, cond, List, Err, Result}
+use Rattle.std.specs.Prelude.{◌≡◌, ℕ, Bool, true, cond, List, Err, Result}
 use Rattle.text.specs.declared.refusals.Fault.{Fault}
 use Rattle.text.specs.declared.refusals.Fault.TheVariants.{NotResolved}
 use Rattle.text.specs.declared.spans.Span.{Span}
@@ -9,11 +9,16 @@ use Rattle.marked.specs.Marked.{marked_copy}
 use Rattle.calls.specs.Calls.{Model}
 use Rattle.calls.specs.Steps.{held, is_resolved}
 use Rattle.written.specs.Listing.{event_lines}
+use Rattle.written.specs.Named.{NamedByTheRules}
 use Rattle.written.specs.SavedLists.{saved_list}
 use Rattle.written.specs.Spans.{written_spans}
 
 abbrev pub spans_held : Model → List Span
 spans_held m = written_spans (held m)
+
+-- member is the meaning of the reader's punctuation set
+abbrev pub HeldAreNamed : (ℕ → Bool) → Model → Type 0
+HeldAreNamed member m = NamedByTheRules member m.machine.note m.links (spans_held m)
 
 abbrev pub saved_form : Model → List ℕ
 saved_form m = saved_list (spans_held m)

@@ -9,5 +9,5 @@ pub fn worked_examples() -> usize
     ensures count { result ≡ length examples }
     ensures every_example_comes_out { EveryExampleComesOut }
 {
-    14
+    15
 }

@@ -3,8 +3,8 @@
 ghost use Rattle.std.specs.Prelude.{◌≡◌, Some, OnErr, OnOk};
 ghost use Rattle.edit_map.specs.View.{AsNew};
 ghost use Rattle.marked.specs.Marked.{OnlyMarks};
-ghost use Rattle.reader.specs.View.{events_held, view};
-ghost use Rattle.written.specs.Forms.{spans_held, saved_form, marked_form, listed_form, form_answer, form_written, IfResolved};
+ghost use Rattle.reader.specs.View.{events_held, meaning_of, view};
+ghost use Rattle.written.specs.Forms.{spans_held, HeldAreNamed, saved_form, marked_form, listed_form, form_answer, form_written, IfResolved};
 ghost use Rattle.written.specs.Listing.{ALineForEachEvent};
 ghost use Rattle.written.specs.Numbers.{NumbersAreShortest};
 ghost use Rattle.written.specs.SavedLists.{read_list};
@@ -23,6 +23,7 @@ pub fn saved_list<S: PunctuationSet>(reader: &Reader<S>, out: &mut [u8]) -> Resu
     ensures answer { result ≡ form_answer saved_form (view reader.now) out.old }
     ensures written { out.new ≡ form_written saved_form (view reader.now) out.old }
     ensures read_back { IfResolved (view reader.now) (read_list (saved_form (view reader.now)) ≡ Some (spans_held (view reader.now))) }
+    ensures named { IfResolved (view reader.now) ∥ HeldAreNamed (meaning_of reader.now) (view reader.now) ∥₁ }
     ensures numbers_are_shortest { NumbersAreShortest }
 {
     if !reader.phase().is_resolved() {
@@ -42,6 +43,7 @@ pub fn marked_copy<S: PunctuationSet>(
     ensures written { out.new ≡ form_written marked_form (view reader.now) out.old }
     ensures as_new { OnOk result (AsNew map.new) }
     ensures refused { OnErr result (map.new ≡ map.old) }
+    ensures named { IfResolved (view reader.now) ∥ HeldAreNamed (meaning_of reader.now) (view reader.now) ∥₁ }
     ensures only_marks { IfResolved (view reader.now) (OnlyMarks (view reader.now).machine.note (spans_held (view reader.now))) }
 {
     if !reader.phase().is_resolved() {
