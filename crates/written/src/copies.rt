@@ -18,7 +18,7 @@ use text::spans::NO_SPAN;
 // many bytes that is. The copy is made by edits in `map`, which forgets the edits that it has kept.
 //
 // Refused is 16 an `out` that is too short. Nothing is changed then.
-pub fn mark_events(
+pub(crate) fn mark_events(
     map: &mut EditMap,
     note: &[u8],
     events: &[Event],

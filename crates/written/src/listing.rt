@@ -12,7 +12,7 @@ use text::lent::check_room;
 // Writes the listing of these events to the front of `out`, and answers how many bytes that is. Refused is 16 an `out` that is
 // too short. Nothing is changed then.
 #[tactic(auto, using(crate::proofs::LineEnds::a_line_for_each_event))]
-pub fn list_events(events: &[Event], out: &mut [u8]) -> Result<usize, Fault>
+pub(crate) fn list_events(events: &[Event], out: &mut [u8]) -> Result<usize, Fault>
     requires { length events.now ≤ most_events }
     ensures answer { result ≡ written_count (event_lines events.now) out.old }
     ensures written { out.new ≡ overwritten (event_lines events.now) out.old }

@@ -5,9 +5,10 @@ ghost use Rattle.written.specs.Numbers.{number};
 
 use crate::fronts::put;
 
-// No number of a saved list is longer than two bytes.
+// A number below this takes one byte.
 const ONE_BYTE: usize = 1 << 7;
 
+// And one below this takes two at most: no number of a saved list is longer.
 pub(crate) const TWO_BYTES: usize = 1 << 14;
 
 // Writes the number at `at`, and answers the place after it.

@@ -19,7 +19,7 @@ use text::{Fault, Span, SpanKind};
 
 // Writes the saved list of resolved events to the front of `out`, and answers how many bytes that is. Refused is 16 an `out`
 // that is too short. Nothing is changed then.
-pub fn save_events(events: &[Event], out: &mut [u8]) -> Result<usize, Fault>
+pub(crate) fn save_events(events: &[Event], out: &mut [u8]) -> Result<usize, Fault>
     requires { (note : List ℕ) × (length note ≤ LONGEST_NOTE) × ∥ IsResolved note events.now ∥₁ }
     ensures answer { result ≡ written_count (saved_list (written_spans events.now)) out.old }
     ensures written { out.new ≡ overwritten (saved_list (written_spans events.now)) out.old }
@@ -34,7 +34,7 @@ pub fn save_events(events: &[Event], out: &mut [u8]) -> Result<usize, Fault>
 // Writes the saved list of spans of a note to the front of `out`, and answers how many bytes that is. Refused is 16 an `out`
 // that is too short. Nothing is changed then.
 #[tactic(auto, using(crate::proofs::SavedLists::read_back, crate::proofs::Groups::numbers_are_shortest))]
-pub fn save_spans(spans: &[Span], out: &mut [u8]) -> Result<usize, Fault>
+fn save_spans(spans: &[Span], out: &mut [u8]) -> Result<usize, Fault>
     requires few { length spans.now ≤ LONGEST_NOTE }
     requires in_turn { IsInTurn 0 LONGEST_NOTE spans.now }
     ensures answer { result ≡ written_count (saved_list spans.now) out.old }
