@@ -1,0 +1,4 @@
+pub mod Meets
+pub mod Quotes
+pub mod Shown
+pub mod Words

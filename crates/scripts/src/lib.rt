@@ -1,0 +1,7 @@
+// Scripts: lists of calls written as text, a call a line, and the text that tells what the calls answered. docs/FORMATS.md,
+// section 9, has the format.
+#![tactic(auto)]
+
+pub mod errors;
+mod quotes;
+mod words;
