@@ -1,3 +1,6 @@
+pub mod Commands
+pub mod Keywords
+pub mod Lines
 pub mod Meets
 pub mod Quotes
 pub mod Shown

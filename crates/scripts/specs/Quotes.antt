@@ -1,8 +1,8 @@
 -- Texts in double quotes, which stand for the bytes of a note: how they are read, and how a note is written as one.
 -- Assumes nothing.
-use Rattle.std.specs.Prelude.{ℕ, ◌+◌, ◌*◌, ◌/◌, ◌%◌, Bool, cond, ◌&&◌, List, [], ◌∷◌, ◌++◌, codes, Some, None, Option, Ok, Err, Result, ◌==◌, nat_lt, nat_le}
-use Rattle.std.specs.Char.{digit_value, digit_char, is_ascii_whitespace}
-use Rattle.std.specs.Option.{ok_or, option_map}
+use Rattle.std.specs.Prelude.{ℕ, ◌+◌, ◌*◌, ◌-◌, ◌^◌, false, cond, ◌&&◌, List, [], ◌∷◌, ◌++◌, codes, Some, None, Option, Ok, Err, Result, ◌==◌, nat_lt, nat_le}
+use Rattle.std.specs.Char.{digit_value, is_ascii_whitespace}
+use Rattle.std.specs.Fmt.{digits, format_spec, padded_integral}
 use Rattle.scripts.specs.declared.errors.Expected.{Expected}
 use Rattle.scripts.specs.declared.errors.Expected.TheVariants as expected
 use Rattle.scripts.specs.declared.quotes.Place.{Place}
@@ -69,6 +69,10 @@ quoted text = quoted_from place.Front text
 
 -- ---- writing
 
+-- in hexadecimal, with two digits
+abbrev pub hex_shown : ℕ → List ℕ
+hex_shown b = padded_integral (format_spec 32 0 4 2 (2 ^ 64 - 1)) false [] (digits 16 false b)
+
 -- visible ASCII and the space stand for themselves
 abbrev pub escaped : ℕ → List ℕ
 escaped b =
@@ -78,7 +82,7 @@ escaped b =
     (cond (b == 34) (codes "\\\"")
     (cond (b == 92) (codes "\\\\")
     (cond (nat_le 32 b && nat_le b 126) (b ∷ [])
-    (codes "\\x" ++ (digit_char (b / 16) ∷ digit_char (b % 16) ∷ [])))))))
+    (codes "\\x" ++ hex_shown b))))))
 
 abbrev pub all_escaped : List ℕ → List ℕ
 all_escaped [] = []

@@ -9,7 +9,7 @@ use std::fmt;
 // What would have to stand where a line cannot be read.
 #[derive(Clone, Copy, PartialEq, Eq, Debug)]
 pub enum Expected {
-    Command,
+    Keyword,
     Number,
     Text,
     ClosingQuote,
@@ -22,7 +22,7 @@ impl fmt::Display for Expected {
 
     fn fmt<W: fmt::Write>(&self, f: &mut fmt::Formatter<W>) -> fmt::Result {
         f.write_str(match self {
-            Expected::Command => "load, push, end, link, resolve, clear or events",
+            Expected::Keyword => "load, push, end, link, resolve, clear or events",
             Expected::Number => "a decimal number below 2^64",
             Expected::Text => "a text in double quotes",
             Expected::ClosingQuote => "a closing quote",

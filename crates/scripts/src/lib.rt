@@ -2,6 +2,9 @@
 // section 9, has the format.
 #![tactic(auto)]
 
+pub mod commands;
 pub mod errors;
+mod keywords;
+pub mod lines;
 mod quotes;
 mod words;

@@ -1,0 +1,47 @@
+// What the lines of a script ask for.
+ghost use Rattle.std.specs.Prelude.{◌≡◌};
+ghost use Rattle.scripts.specs.Commands.{bare, meant};
+
+use calls::Call;
+
+// A call, or the events that are held then.
+#[derive(Clone, Copy, Drop)]
+pub enum Line<C> {
+    Call(C),
+    Events,
+}
+
+// A call with a note of its own.
+#[derive(Drop)]
+pub enum OwnedCall {
+    Load(Vec<u8>),
+    Push { to: usize, allowance: u64 },
+    End { allowance: u64 },
+    Link { first: usize, last: usize },
+    Resolve,
+    Clear,
+}
+
+impl OwnedCall {
+    // The call, with its note on loan.
+    pub fn lend(&self) -> Call<'_>
+        ensures { bare result ≡ meant self.now }
+    {
+        match self {
+            OwnedCall::Load(note) => Call::Load(note),
+            OwnedCall::Push { to, allowance } => Call::Push {
+                to: *to,
+                allowance: *allowance,
+            },
+            OwnedCall::End { allowance } => Call::End {
+                allowance: *allowance,
+            },
+            OwnedCall::Link { first, last } => Call::Link {
+                first: *first,
+                last: *last,
+            },
+            OwnedCall::Resolve => Call::Resolve,
+            OwnedCall::Clear => Call::Clear,
+        }
+    }
+}
