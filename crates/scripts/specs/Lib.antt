@@ -1,7 +1,9 @@
 pub mod Commands
+pub mod Errors
 pub mod Keywords
 pub mod Lines
 pub mod Meets
 pub mod Quotes
+pub mod Scripts
 pub mod Shown
 pub mod Words

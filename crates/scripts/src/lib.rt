@@ -6,5 +6,6 @@ pub mod commands;
 pub mod errors;
 mod keywords;
 pub mod lines;
+pub mod parsing;
 mod quotes;
 mod words;

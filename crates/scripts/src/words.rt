@@ -70,9 +70,7 @@ fn push_digit(number: u64, digit: u8) -> Option<u64>
     if !digit.is_ascii_digit() {
         return None;
     }
-    number
-        .checked_mul(10)?
-        .checked_add(u64::from(digit - b'0'))
+    number.checked_mul(10)?.checked_add(u64::from(digit - b'0'))
 }
 
 // Only white space is left.
