@@ -1,9 +1,12 @@
+pub mod Answers
 pub mod Commands
 pub mod Errors
 pub mod Keywords
 pub mod Lines
 pub mod Meets
 pub mod Quotes
+pub mod Report
 pub mod Scripts
 pub mod Shown
+pub mod Texts
 pub mod Words

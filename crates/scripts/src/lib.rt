@@ -2,10 +2,13 @@
 // section 9, has the format.
 #![tactic(auto)]
 
+pub mod answers;
 pub mod commands;
 pub mod errors;
 mod keywords;
 pub mod lines;
 pub mod parsing;
 mod quotes;
+pub mod report;
+mod texts;
 mod words;
