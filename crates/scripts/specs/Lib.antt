@@ -1,5 +1,6 @@
 pub mod Answers
 pub mod Commands
+pub mod Counts
 pub mod Errors
 pub mod Keywords
 pub mod Lines
@@ -8,5 +9,6 @@ pub mod Quotes
 pub mod Report
 pub mod Scripts
 pub mod Shown
+pub mod Sums
 pub mod Texts
 pub mod Words

@@ -1,13 +1,24 @@
 // What a reader answers, as it is told.
 ghost use Rattle.std.specs.Prelude.{◌≡◌, Some};
-ghost use Rattle.scripts.specs.Answers.{answer_shown, state_shown, step_noun};
+ghost use Rattle.calls.specs.Moments.{done};
+ghost use Rattle.scripts.specs.Answers.{answer_shown, state_shown};
 
+use crate::counts::Counted;
 use calls::Reply;
 use std::fmt;
 use text::Fault;
 
 #[derive(Clone, Copy)]
 pub struct Answer(pub Result<Reply, Fault>);
+
+impl Answer {
+    // A push or an end that was done.
+    pub fn is_done(self) -> bool
+        ensures { result ≡ done self.0 }
+    {
+        matches!(self.0, Ok(Some(ran)) if ran.done)
+    }
+}
 
 impl fmt::Display for Answer {
     ghost output = { λ answer. Some (answer_shown answer.0) };
@@ -16,20 +27,16 @@ impl fmt::Display for Answer {
         match self.0 {
             Ok(None) => f.write_str("accepted"),
             Ok(Some(ran)) => {
-                let steps = ran.steps;
-                let noun = step_noun(steps);
+                let steps = Counted {
+                    count: ran.steps,
+                    noun: "step",
+                };
                 let state = state_word(ran.done);
-                write!(f, "{steps} {noun}, {state}")
+                write!(f, "{steps}, {state}")
             }
             Err(fault) => write!(f, "{fault}"),
         }
     }
-}
-
-fn step_noun(count: u64) -> &'static str
-    ensures { result.now ≡ step_noun count }
-{
-    if count == 1 { "step" } else { "steps" }
 }
 
 fn state_word(done: bool) -> &'static str

@@ -4,11 +4,13 @@
 
 pub mod answers;
 pub mod commands;
+pub mod counts;
 pub mod errors;
 mod keywords;
 pub mod lines;
 pub mod parsing;
 mod quotes;
 pub mod report;
+pub mod sums;
 mod texts;
 mod words;
