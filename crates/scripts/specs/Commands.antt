@@ -1,7 +1,7 @@
 -- What the lines of a script ask for. Of a note that is on loan only its bytes count, and not where they lie.
 -- Assumes nothing.
 use denote.Ref.{Bor}
-use Rattle.std.specs.Prelude.{ℕ, List, Some, None, Option}
+use Rattle.std.specs.Prelude.{ℕ, List, [], ◌∷◌, Some, None, Option}
 use Rattle.calls.specs.declared.scripts.Call.{Call}
 use Rattle.calls.specs.declared.scripts.Call.TheVariants as call
 use Rattle.scripts.specs.declared.commands.Line.{Line}
@@ -38,3 +38,9 @@ meant_line line.Events = line.Events
 abbrev pub meant_option : Option (Line OwnedCall) → Option (Line Call)
 meant_option None = None
 meant_option (Some l) = Some (meant_line l)
+
+-- the calls that lines ask for, in turn
+abbrev pub calls_in : List (Line Call) → List Call
+calls_in [] = []
+calls_in (line.Call c ∷ ls) = c ∷ calls_in ls
+calls_in (line.Events ∷ ls) = calls_in ls

@@ -7,6 +7,7 @@ pub mod Lines
 pub mod Meets
 pub mod Quotes
 pub mod Report
+pub mod ScriptExamples
 pub mod Scripts
 pub mod Shown
 pub mod Sums

@@ -1,8 +1,9 @@
 // What the lines of a script ask for.
-ghost use Rattle.std.specs.Prelude.{◌≡◌};
-ghost use Rattle.scripts.specs.Commands.{bare, meant};
+ghost use Rattle.std.specs.Prelude.{◌≡◌, map, IfOk};
+ghost use Rattle.scripts.specs.Commands.{bare, meant, meant_line, calls_in};
 
 use calls::Call;
+use std::alloc::{AllocError, Global};
 
 // A call, or the events that are held then.
 #[derive(Clone, Copy, Drop)]
@@ -44,4 +45,17 @@ impl OwnedCall {
             OwnedCall::Clear => Call::Clear,
         }
     }
+}
+
+// The calls of a script, in turn, with their notes on loan.
+pub fn calls_in(heap: Global, script: &[Line<OwnedCall>]) -> Result<Vec<Call<'_>>, AllocError>
+    ensures { IfOk result (λ calls. map bare calls.items ≡ calls_in (map meant_line script.now)) }
+{
+    let mut calls = Vec::new(heap);
+    for line in script {
+        if let Line::Call(call) = line {
+            calls.push(call.lend())?;
+        }
+    }
+    Ok(calls)
 }

@@ -6,6 +6,7 @@ pub mod answers;
 pub mod commands;
 pub mod counts;
 pub mod errors;
+pub mod examples;
 mod keywords;
 pub mod lines;
 pub mod parsing;
