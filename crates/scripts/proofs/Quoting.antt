@@ -1,6 +1,6 @@
 -- Texts in quotes, read from the middle on.
 -- Assumes nothing.
-use Rattle.std.proofs.Common.{◌≡◌, ℕ, List, [], ◌∷◌, ◌++◌, Ok, Err, Some, None, Option, Result, refl, sym, ap, append_assoc}
+use Rattle.std.proofs.Common.{◌≡◌, ℕ, List, [], ◌∷◌, ◌++◌, Ok, Err, Some, Result, refl, sym, ap, append_assoc}
 use Rattle.scripts.specs.declared.errors.Expected.{Expected}
 use Rattle.scripts.specs.Quotes.{in_front}
 

@@ -6,6 +6,7 @@ pub mod Keywords
 pub mod Lines
 pub mod Meets
 pub mod Quotes
+pub mod ReadingBack
 pub mod Report
 pub mod ScriptExamples
 pub mod Scripts

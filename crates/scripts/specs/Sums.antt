@@ -1,6 +1,6 @@
 -- What a list of calls has done in all, and how it is told.
 -- Assumes nothing.
-use Rattle.std.specs.Prelude.{ℕ, Bool, cond, List, length, ◌-◌, ◌++◌, count_by, codes, decimal}
+use Rattle.std.specs.Prelude.{ℕ, cond, List, length, ◌-◌, ◌++◌, count_by, codes, decimal}
 use Rattle.calls.specs.declared.scripts.Call.{Call}
 use Rattle.calls.specs.Moments.{Told, told, nothing, accepted}
 use Rattle.calls.specs.Steps.{Answer}

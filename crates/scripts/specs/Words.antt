@@ -1,7 +1,7 @@
 -- The words of a line, and numbers. A word is what stands between white space.
 -- Assumes nothing.
 use denote.Ref.{Bor}
-use Rattle.std.specs.Prelude.{◌≡◌, ℕ, ◌+◌, ◌-◌, ◌*◌, ◌^◌, Bool, true, false, cond, not, List, [], ◌∷◌, length, drop, take_while, Some, None, Option, Ok, Err, Result, ◌==◌, nat_lt}
+use Rattle.std.specs.Prelude.{◌≡◌, ℕ, ◌+◌, ◌-◌, ◌*◌, ◌^◌, Bool, cond, not, List, [], ◌∷◌, length, drop, take_while, Some, None, Option, Ok, Err, Result, ◌==◌, nat_lt}
 use Rattle.std.specs.Char.{is_ascii_whitespace, is_ascii_digit}
 use Rattle.std.specs.List.{prefix_len}
 use Rattle.scripts.specs.declared.errors.Expected.{Expected}

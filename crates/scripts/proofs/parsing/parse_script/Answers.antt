@@ -1,11 +1,9 @@
-use Rattle.std.proofs.Common.{◌≡◌, ◌+◌, List, Ok, Err, map, drop, sym, ap, ◌∙◌, subst}
+use Rattle.std.proofs.Common.{◌+◌, Ok, Err, map, sym, ap, ◌∙◌, subst}
 use Rattle.std.proofs.lemmas.Result.{err_from_is_err_and}
-use Rattle.scripts.specs.declared.commands.Line.{Line}
-use Rattle.scripts.specs.declared.commands.OwnedCall.{OwnedCall}
-use Rattle.scripts.specs.Commands.{meant_line, meant_option}
+use Rattle.scripts.specs.Commands.{meant_option}
 use Rattle.scripts.specs.Lines.{line_of}
-use Rattle.scripts.specs.Scripts.{lines, script_of, script_from, SaysLine, SaysScript}
-use Rattle.scripts.proofs.Scripting.{behind, is_line, says_more, says_nothing, says_err}
+use Rattle.scripts.specs.Scripts.{lines, SaysLine}
+use Rattle.scripts.proofs.Scripting.{is_line, says_more, says_nothing, says_err}
 use Rattle.scripts.proofs.parsing.parse_script.Goals as goal
 use Rattle.scripts.proofs.parsing.parse_script.Goals.{in-Some+in_ok-push, in_default}
 

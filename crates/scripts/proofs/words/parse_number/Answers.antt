@@ -1,4 +1,4 @@
-use Rattle.std.proofs.Common.{◌≡◌, ℕ, ◌<◌, zero, suc, List, [], ◌∷◌, Some, None, Option, length, get_or, drop, sym, ap, ◌∙◌, arith, drop-cons, add-one}
+use Rattle.std.proofs.Common.{◌≡◌, ℕ, ◌<◌, suc, List, [], ◌∷◌, Some, None, length, get_or, drop, sym, ap, ◌∙◌, arith, drop-cons}
 use Rattle.scripts.specs.Words.{digit_more, number_from, number_of}
 use Rattle.scripts.proofs.Numbers.{none_stays}
 use Rattle.scripts.proofs.words.parse_number.Goals as goal

@@ -1,4 +1,4 @@
-use Rattle.std.proofs.Common.{◌≡◌, ◌<◌, ◌≤◌, List, [], ◌∷◌, length, drop, refl, sym, ap, ◌∙◌, arith}
+use Rattle.std.proofs.Common.{◌≡◌, ◌<◌, List, [], ◌∷◌, length, drop, refl, sym, ap, ◌∙◌, arith}
 use Rattle.calls.specs.declared.scripts.Call.{Call}
 use Rattle.calls.specs.Moments.{Told, told, nothing}
 use Rattle.scripts.specs.declared.answers.Answer.{Answer}
