@@ -3,14 +3,10 @@
 use Rattle.std.specs.Prelude.{ℕ, List, [], ◌∷◌, ◌++◌, map, codes}
 use Rattle.calls.specs.declared.scripts.Call.{Call}
 use Rattle.calls.specs.Steps.{Answer}
-use Rattle.scripts.specs.declared.answers.Answer.{Answer as Given}
 use Rattle.scripts.specs.declared.commands.Line.{Line}
 use Rattle.scripts.specs.declared.commands.Line.TheVariants as line
 use Rattle.scripts.specs.Answers.{answer_shown}
 use Rattle.scripts.specs.Texts.{call_shown}
-
-abbrev pub answers_given : List Given → List Answer
-answers_given = map (λ (a : Given). a.0)
 
 -- as `push 7 99: 19 steps, done`
 abbrev pub answered_line : Call → Answer → List ℕ

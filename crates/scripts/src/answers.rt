@@ -8,19 +8,21 @@ use calls::Reply;
 use std::fmt;
 use text::Fault;
 
-#[derive(Clone, Copy)]
-pub struct Answer(pub Result<Reply, Fault>);
+// What a call is answered.
+pub type Answer = Result<Reply, Fault>;
 
-impl Answer {
-    // A push or an end that was done.
-    pub fn is_done(self) -> bool
-        ensures { result ≡ done self.0 }
-    {
-        matches!(self.0, Ok(Some(ran)) if ran.done)
-    }
+// A push or an end that was done.
+pub fn is_done(answer: Answer) -> bool
+    ensures { result ≡ done answer }
+{
+    matches!(answer, Ok(Some(ran)) if ran.done)
 }
 
-impl fmt::Display for Answer {
+// An answer as it is told.
+#[derive(Clone, Copy)]
+pub struct Answered(pub Answer);
+
+impl fmt::Display for Answered {
     ghost output = { λ answer. Some (answer_shown answer.0) };
 
     fn fmt<W: fmt::Write>(&self, f: &mut fmt::Formatter<W>) -> fmt::Result {

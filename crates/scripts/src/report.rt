@@ -1,9 +1,9 @@
 // What is told of a script, line by line.
 ghost use Rattle.std.specs.Prelude.{◌≡◌, ◌++◌, map, string_bytes, OnOk};
 ghost use Rattle.scripts.specs.Commands.{meant, meant_line};
-ghost use Rattle.scripts.specs.Report.{answered_line, told_lines, answers_given};
+ghost use Rattle.scripts.specs.Report.{answered_line, told_lines};
 
-use crate::answers::Answer;
+use crate::answers::{Answer, Answered};
 use crate::commands::{Line, OwnedCall};
 use crate::texts::write_call;
 use std::alloc::AllocError;
@@ -17,7 +17,7 @@ pub fn write_lines(
     mut answers: &[Answer],
     mut listings: &[String],
 ) -> Result<(), AllocError>
-    ensures { OnOk result (string_bytes report.new ≡ string_bytes report.old ++ told_lines (map meant_line script.now) (answers_given answers.now) (map string_bytes listings.now)) }
+    ensures { OnOk result (string_bytes report.new ≡ string_bytes report.old ++ told_lines (map meant_line script.now) answers.now (map string_bytes listings.now)) }
 {
     for line in script {
         match line {
@@ -41,8 +41,9 @@ pub fn write_lines(
 }
 
 fn write_answered(report: &mut String, call: &OwnedCall, answer: Answer) -> Result<(), AllocError>
-    ensures { OnOk result (string_bytes report.new ≡ string_bytes report.old ++ answered_line (meant call.now) answer.0) }
+    ensures { OnOk result (string_bytes report.new ≡ string_bytes report.old ++ answered_line (meant call.now) answer) }
 {
     write_call(report, call)?;
-    writeln!(report, ": {answer}")
+    let answered = Answered(answer);
+    writeln!(report, ": {answered}")
 }

@@ -1,10 +1,9 @@
 // What a list of calls has done in all.
 ghost use Rattle.std.specs.Prelude.{◌≡◌, ◌+◌, ◌^◌, ◌<◌, ◌≤◌, length, Some};
 ghost use Rattle.calls.specs.Moments.{Told, told, nothing, telling};
-ghost use Rattle.scripts.specs.Report.{answers_given};
 ghost use Rattle.scripts.specs.Sums.{standing, standing_shown, state_shown, sum_of, sum_shown};
 
-use crate::answers::Answer;
+use crate::answers::{Answer, is_done};
 use crate::counts::Counted;
 use calls::Call;
 use std::fmt;
@@ -30,22 +29,22 @@ impl Standing {
     // After one more call, which got this answer.
     fn after(self, call: &Call<'_>, answer: Answer) -> Standing
         requires { self.links < 2 ^ 63 }
-        ensures { (t : Told) → self ≡ standing t → result ≡ standing (telling t call.now answer.0) }
+        ensures { (t : Told) → self ≡ standing t → result ≡ standing (telling t call.now answer) }
     {
         match call {
-            Call::Load(note) if answer.0.is_ok() => Standing {
+            Call::Load(note) if answer.is_ok() => Standing {
                 bytes: note.len(),
                 ..self
             },
-            Call::End { .. } if answer.is_done() => Standing {
+            Call::End { .. } if is_done(answer) => Standing {
                 ended: true,
                 ..self
             },
-            Call::Link { .. } if answer.0.is_ok() => Standing {
+            Call::Link { .. } if answer.is_ok() => Standing {
                 links: self.links + 1,
                 ..self
             },
-            Call::Resolve if answer.0.is_ok() => Standing {
+            Call::Resolve if answer.is_ok() => Standing {
                 resolved: true,
                 ..self
             },
@@ -56,7 +55,7 @@ impl Standing {
 
     // After these calls, which got these answers.
     fn after_all(calls: &[Call<'_>], mut answers: &[Answer]) -> Standing
-        ensures { result ≡ standing (told nothing calls.now (answers_given answers.entry.now)) }
+        ensures { result ≡ standing (told nothing calls.now answers.entry.now) }
     {
         let mut standing = Standing::NOTHING;
         for call in calls {
@@ -82,9 +81,9 @@ pub struct Sum {
 
 impl Sum {
     pub fn new(calls: &[Call<'_>], answers: &[Answer], events: usize) -> Sum
-        ensures { result ≡ sum_of calls.now (answers_given answers.now) events }
+        ensures { result ≡ sum_of calls.now answers.now events }
     {
-        let accepted = answers.iter().filter(|answer| answer.0.is_ok()).count();
+        let accepted = answers.iter().filter(|answer| answer.is_ok()).count();
         Sum {
             calls: calls.len(),
             accepted,

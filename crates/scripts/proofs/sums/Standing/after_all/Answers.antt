@@ -1,13 +1,12 @@
 use Rattle.std.proofs.Common.{◌≡◌, ◌<◌, List, [], ◌∷◌, length, drop, refl, sym, ap, ◌∙◌, arith}
 use Rattle.calls.specs.declared.scripts.Call.{Call}
 use Rattle.calls.specs.Moments.{Told, told, nothing}
-use Rattle.scripts.specs.declared.answers.Answer.{Answer}
-use Rattle.scripts.specs.Report.{answers_given}
+use Rattle.calls.specs.Steps.{Answer}
 use Rattle.scripts.specs.Sums.{standing}
 use Rattle.scripts.proofs.sums.Standing.after_all.Goals as goal
 
 -- without an answer nothing more is told
-unanswered : (t : Told) (calls : List Call) (given : List Answer) → length given < 1 → told t calls (answers_given given) ≡ t
+unanswered : (t : Told) (calls : List Call) (given : List Answer) → length given < 1 → told t calls given ≡ t
 unanswered t [] [] none = refl
 unanswered t [] (a ∷ given) none = refl
 unanswered t (c ∷ calls) [] none = refl

@@ -1,6 +1,5 @@
 use Rattle.std.proofs.Common.{◌≡◌, ◌≤◌, length, drop}
 use Rattle.calls.specs.Moments.{Told, told, nothing}
-use Rattle.scripts.specs.Report.{answers_given}
 use Rattle.scripts.specs.Sums.{standing}
 use Rattle.scripts.proofs.sums.Standing.after_all.Given as goal
 
@@ -10,4 +9,4 @@ invariant-loop-call l =
     (t : Told)
     × (l.standing ≡ standing t)
     × (length t.links ≤ l.call-index)
-    × (told t (drop l.call-index l.calls) (answers_given l.answers) ≡ told nothing l.calls (answers_given l.fn.answers))
+    × (told t (drop l.call-index l.calls) l.answers ≡ told nothing l.calls l.fn.answers)
