@@ -3,7 +3,7 @@
 use crate::library;
 use crate::sets::Set;
 use expected::machine::Machine;
-use expected::{characters, mail, resolved, web, Event, Span, Way, DATA};
+use expected::{characters, mail, resolved, web, Event, Span, Way, DATA, EMAIL, XMPP};
 use notes::chance::Chance;
 use published::Reader;
 
@@ -26,7 +26,7 @@ impl Calls {
     /// Pushes to rising places with allowances. A paused push is mostly made again, and sometimes overtaken by a
     /// push further on.
     pub fn split(note: &[u8], set: &Set, chance: &mut Chance) -> Calls {
-        let mut machine = Machine::new(note, set.ranges, Way::Ours);
+        let mut machine = Machine::new(note, set.ranges, Way::OURS);
         let mut calls = Calls::default();
         let largest = *[1, 2, 3, 7, 50, 1000].get(chance.below(6)).unwrap();
         let cuts = 1 + chance.below(8);
@@ -57,6 +57,50 @@ impl Calls {
     }
 }
 
+/// Runs of events to be marked: the numbers of the first and the last.
+pub type Links = Vec<(usize, usize)>;
+
+/// As many links as a reader marks.
+const MOST_LINKS: usize = 64;
+
+/// Runs that may be marked in an ended list of so many spans: each from an enter to a later exit, beyond the run before.
+fn links_by_chance(spans: usize, chance: &mut Chance) -> Links {
+    let gap = [1, 1, 3, 30][chance.below(4)];
+    let length = [1, 2, 5, 40][chance.below(4)];
+    let (mut links, mut next) = (vec![], 0);
+    while links.len() < MOST_LINKS {
+        let first = next + chance.below(gap);
+        if first >= spans {
+            break;
+        }
+        let last = (first + chance.below(length)).min(spans - 1);
+        links.push((2 * first, 2 * last + 1));
+        next = last + 1;
+    }
+    links
+}
+
+/// What came of resolving, and how often a named difference showed in it.
+#[derive(Default, Debug, Clone)]
+pub struct ResolvedTally {
+    pub lists: u64,
+    pub links: u64,
+    pub events: u64,
+    /// How often each of `Way::ALL` was the first that gives the published events: at 0, ours.
+    pub needed: [u64; Way::ALL.len()],
+}
+
+impl ResolvedTally {
+    fn add(&mut self, other: &ResolvedTally) {
+        self.lists += other.lists;
+        self.links += other.links;
+        self.events += other.events;
+        for (sum, needed) in self.needed.iter_mut().zip(other.needed) {
+            *sum += needed;
+        }
+    }
+}
+
 /// What was compared, and how often a named difference was met and showed.
 #[derive(Default, Debug, Clone)]
 pub struct Tally {
@@ -68,14 +112,14 @@ pub struct Tally {
     pub events: u64,
     pub with_web: u64,
     pub with_mail: u64,
-    pub marked: u64,
     pub kinds: u64,
     pub open_met: u64,
     pub open_spans: u64,
     pub open_steps: u64,
     pub dot_met: u64,
     pub resource_met: u64,
-    pub mail_differs: u64,
+    pub unmarked: ResolvedTally,
+    pub marked: ResolvedTally,
     pub called: u32,
     pub most_steps: u64,
 }
@@ -91,14 +135,14 @@ impl Tally {
             events,
             with_web,
             with_mail,
-            marked,
             kinds,
             open_met,
             open_spans,
             open_steps,
             dot_met,
             resource_met,
-            mail_differs,
+            unmarked,
+            marked,
             called,
             most_steps,
         } = other;
@@ -110,37 +154,52 @@ impl Tally {
         self.events += events;
         self.with_web += with_web;
         self.with_mail += with_mail;
-        self.marked += marked;
         self.kinds += kinds;
         self.open_met += open_met;
         self.open_spans += open_spans;
         self.open_steps += open_steps;
         self.dot_met += dot_met;
         self.resource_met += resource_met;
-        self.mail_differs += mail_differs;
+        self.unmarked.add(unmarked);
+        self.marked.add(marked);
         self.called |= called;
         self.most_steps = self.most_steps.max(*most_steps);
     }
 }
 
-/// The numbers that `read_note` writes: two for each push, two for the end, the count of events, six for each.
+/// The numbers that `read_note` writes: two for each push, two for the end, then the events.
 pub fn numbers(pushes: &[(u64, bool)], end: u64, events: &[Event]) -> Vec<u64> {
     let mut out: Vec<u64> = pushes.iter().flat_map(|(steps, done)| [*steps, u64::from(*done)]).collect();
-    out.extend([end, 1, events.len() as u64]);
-    out.extend(events.iter().flatten());
+    out.extend([end, 1]);
+    out.extend(event_numbers(events));
     out
+}
+
+/// The numbers that `resolve_note` writes: the count of events, and six for each.
+pub fn event_numbers(events: &[Event]) -> Vec<u64> {
+    [events.len() as u64].into_iter().chain(events.iter().flatten().copied()).collect()
 }
 
 pub fn hex(bytes: &[u8]) -> String {
     bytes.iter().map(|b| format!("{:02x}", b)).collect()
 }
 
-/// The answers of a run by our way, for the fixed list.
+/// Events after links are marked and resolved, and the way that gives them.
+pub struct Resolved {
+    pub links: Links,
+    pub events: Vec<Event>,
+    pub way: Way,
+}
+
+/// The published answers of a run, for the fixed list.
 pub struct Answers {
     pub pushes: Vec<(u64, bool)>,
     pub end: u64,
     pub joined: Vec<Event>,
     pub open_met: bool,
+    /// Without links, and with links marked by chance.
+    pub unmarked: Resolved,
+    pub marked: Resolved,
     pub called: u32,
 }
 
@@ -153,21 +212,11 @@ macro_rules! same {
     }};
 }
 
-/// Spans of a list of events that lie side by side.
-fn spans_of(events: &[Event]) -> Result<Vec<Span>, String> {
-    events
-        .chunks(2)
-        .map(|pair| match pair {
-            [[0, a, _, _, first, 0], [1, b, _, _, end, 0]] if a == b && first < end => Ok((*a, *first as usize, *end as usize)),
-            _ => Err(format!("no span: {:?}", pair)),
-        })
-        .collect()
-}
-
-/// Compares on one note. An error says what differs, with the note in hexadecimal.
-pub fn compare(note: &[u8], set: &Set, calls: &Calls, links: Option<&mut Chance>, tally: &mut Tally) -> Result<Answers, String> {
+/// Compares on one note, with links marked by chance and without. An error says what differs, with the note in
+/// hexadecimal.
+pub fn compare(note: &[u8], set: &Set, calls: &Calls, chance: &mut Chance, tally: &mut Tally) -> Result<Answers, String> {
     // A panic of the published sources is a difference, too.
-    let run = std::panic::AssertUnwindSafe(|| compared(note, set, calls, links, tally));
+    let run = std::panic::AssertUnwindSafe(|| compared(note, set, calls, chance, tally));
     let result = std::panic::catch_unwind(run).unwrap_or_else(|_| Err("panicked".into()));
     result.map_err(|what| {
         let (pushes, ends) = (&calls.pushes, &calls.ends);
@@ -200,12 +249,44 @@ pub fn compare_kinds(note: &[u8], set: &Set, tally: &mut Tally) -> Result<(), St
     Ok(())
 }
 
-fn compared(note: &[u8], set: &Set, calls: &Calls, links: Option<&mut Chance>, tally: &mut Tally) -> Result<Answers, String> {
+/// A note that all have read to its end, and its spans by the rules in both ways.
+struct Ended<'a> {
+    note: &'a [u8],
+    cut: Vec<Span>,
+    published_cut: Vec<Span>,
+}
+
+/// Compares the resolved events. What differs must be a named difference: there is a way that gives them.
+fn compared_resolved(ended: &Ended, reader: &mut Reader, links: Links, tally: &mut ResolvedTally) -> Result<Resolved, String> {
+    let published = reader.resolved(&links);
+    let expected = |way: Way| {
+        let spans = if way.open_parenthesis { &ended.published_cut } else { &ended.cut };
+        resolved(ended.note, spans, &links, way)
+    };
+    same!(
+        published,
+        expected(Way::PUBLISHED),
+        "resolved with links {:?}: published and expected",
+        links
+    );
+    let rank = Way::ALL.iter().position(|way| published == expected(*way)).unwrap();
+    tally.lists += 1;
+    tally.links += links.len() as u64;
+    tally.events += published.len() as u64;
+    tally.needed[rank] += 1;
+    Ok(Resolved {
+        links,
+        events: published,
+        way: Way::ALL[rank],
+    })
+}
+
+fn compared(note: &[u8], set: &Set, calls: &Calls, chance: &mut Chance, tally: &mut Tally) -> Result<Answers, String> {
     published::use_set(set.ranges);
     let parse_state = published::parse_state(note);
     let mut reader = Reader::new(&parse_state);
-    let mut published_way = Machine::new(note, set.ranges, Way::Published);
-    let mut our_way = Machine::new(note, set.ranges, Way::Ours);
+    let mut published_way = Machine::new(note, set.ranges, Way::PUBLISHED);
+    let mut our_way = Machine::new(note, set.ranges, Way::OURS);
     let (mut made, mut ours) = (vec![], vec![]);
 
     // Each call: the published reader and the machine in the published way hold the same.
@@ -242,8 +323,8 @@ fn compared(note: &[u8], set: &Set, calls: &Calls, links: Option<&mut Chance>, t
     same!(joined, published_way.events(), "joined events: published and expected");
 
     // The rules, without states.
-    let (web_spans, open_met) = web::spans(note, set.ranges, Way::Ours);
-    let (published_spans, published_met) = web::spans(note, set.ranges, Way::Published);
+    let (web_spans, open_met) = web::spans(note, set.ranges, Way::OURS);
+    let (published_spans, published_met) = web::spans(note, set.ranges, Way::PUBLISHED);
     same!(
         (open_met, open_met, open_met),
         (published_met, our_way.met, published_way.met),
@@ -285,42 +366,20 @@ fn compared(note: &[u8], set: &Set, calls: &Calls, links: Option<&mut Chance>, t
         }
     }
 
-    // Resolved: links marked by chance, then mail.
-    let spans = spans_of(&joined)?;
-    let mut marked = vec![];
-    if let Some(chance) = links {
-        let mut next = 0;
-        while next < spans.len() && marked.len() < 64 && !chance.one_in(3) {
-            let first = next + chance.below(spans.len() - next);
-            let last = first + chance.below((spans.len() - first).min(4));
-            marked.push((first, last));
-            next = last + 1;
-        }
+    let (mut dot_met, mut resource_met) = (false, false);
+    for &(_, first, end) in published_cut.iter().filter(|span| span.0 == DATA) {
+        let (_, dot, resource) = mail::addresses(&note[first..end], Way::PUBLISHED);
+        let (_, our_dot, our_resource) = mail::addresses(&note[first..end], Way::OURS);
+        same!(dot || resource, our_dot || our_resource, "mail differences met");
+        dot_met |= dot;
+        resource_met |= resource;
     }
-    let events: Vec<(usize, usize)> = marked.iter().map(|(first, last)| (2 * first, 2 * last + 1)).collect();
-    reader.resolve(&events);
-    let after = reader.events();
-    same!(
-        after,
-        resolved(note, &spans, &marked, Way::Published),
-        "resolved with {:?}: published and expected",
-        marked
-    );
-    let (mut dot_met, mut resource_met, mut has_mail) = (false, false, false);
-    for (i, &(name, first, end)) in spans.iter().enumerate() {
-        if name == DATA && !marked.iter().any(|m| m.0 <= i && i <= m.1) {
-            let (found, dot, resource) = mail::addresses(&note[first..end], Way::Published);
-            let (_, our_dot, our_resource) = mail::addresses(&note[first..end], Way::Ours);
-            same!(dot || resource, our_dot || our_resource, "mail differences met");
-            has_mail |= !found.is_empty();
-            dot_met |= dot;
-            resource_met |= resource;
-        }
-    }
-    let mail_differs = after != resolved(note, &spans, &marked, Way::Ours);
-    if mail_differs && !dot_met && !resource_met {
-        same!(after, resolved(note, &spans, &marked, Way::Ours), "resolved: published and ours");
-    }
+
+    let links = links_by_chance(cut.len().min(published_cut.len()), chance);
+    let ended = Ended { note, cut, published_cut };
+    let unmarked = compared_resolved(&ended, &mut reader, vec![], &mut tally.unmarked)?;
+    let marked = compared_resolved(&ended, &mut reader, links, &mut tally.marked)?;
+    let has_mail = unmarked.events.iter().any(|event| (EMAIL..=XMPP).contains(&event[1]));
 
     tally.notes += 1;
     tally.bytes += note.len() as u64;
@@ -329,11 +388,9 @@ fn compared(note: &[u8], set: &Set, calls: &Calls, links: Option<&mut Chance>, t
     tally.events += joined.len() as u64;
     tally.with_web += u64::from(!published_spans.is_empty());
     tally.with_mail += u64::from(has_mail);
-    tally.marked += marked.len() as u64;
     tally.kinds += kinds;
     tally.dot_met += u64::from(dot_met);
     tally.resource_met += u64::from(resource_met);
-    tally.mail_differs += u64::from(mail_differs);
     tally.called |= published_way.called;
     tally.most_steps = tally.most_steps.max(steps);
     Ok(Answers {
@@ -341,6 +398,8 @@ fn compared(note: &[u8], set: &Set, calls: &Calls, links: Option<&mut Chance>, t
         end,
         joined,
         open_met,
+        unmarked,
+        marked,
         called: published_way.called,
     })
 }

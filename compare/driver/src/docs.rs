@@ -3,6 +3,7 @@
 use crate::compare::{compare, Calls, Tally};
 use crate::sets::Set;
 use expected::{mail, web, Span, Way, DATA, LINE_ENDING};
+use notes::chance::Chance;
 use notes::tables::Row;
 
 /// Holds a row against the rules in the way that its column speaks of, and its note against the published sources.
@@ -24,8 +25,8 @@ pub fn check(row: &Row, sets: &[Set], tally: &mut Tally) -> Result<(), String> {
         (web_spans, cut, resolved, named)
     };
     for set in row.sets.iter().map(|k| &sets[*k]) {
-        let (web_spans, cut, resolved, named) = whole(Way::Ours, set.ranges);
-        let published = whole(Way::Published, set.ranges).3;
+        let (web_spans, cut, resolved, named) = whole(Way::OURS, set.ranges);
+        let published = whole(Way::PUBLISHED, set.ranges).3;
         let agrees = match row.column.as_str() {
             "result" => row.says == web_spans,
             "spans when ended" | "cut into" => row.says == cut,
@@ -40,10 +41,11 @@ pub fn check(row: &Row, sets: &[Set], tally: &mut Tally) -> Result<(), String> {
                 row.file, row.line, row.says, named, published
             ));
         }
-        let answers = compare(&row.note, set, &Calls::one_push(&row.note), None, tally)?;
+        let mut chance = Chance::new(7 << 40 | row.line as u64);
+        let answers = compare(&row.note, set, &Calls::one_push(&row.note), &mut chance, tally)?;
         if let Some(says) = row.steps {
             // The steps are ours; the published count is another where a parenthesis is met.
-            let mut ours = expected::machine::Machine::new(&row.note, set.ranges, Way::Ours);
+            let mut ours = expected::machine::Machine::new(&row.note, set.ranges, Way::OURS);
             let steps = (ours.push(row.note.len(), u64::MAX).0, ours.end(u64::MAX).0);
             let published = (answers.pushes[0].0, answers.end);
             if says != steps || !answers.open_met && says != published {

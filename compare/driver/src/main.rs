@@ -9,7 +9,8 @@ mod library;
 mod sample;
 mod sets;
 
-use compare::{compare, compare_edits, compare_kinds, Calls, Tally};
+use compare::{compare, compare_edits, compare_kinds, Calls, ResolvedTally, Tally};
+use expected::Way;
 use notes::chance::Chance;
 use notes::{made, tables};
 use sets::Set;
@@ -100,10 +101,9 @@ fn report(title: &str, t: &Tally, seconds: f64) {
         t.bytes, t.calls, t.paused, t.steps, t.most_steps, t.events, t.kinds
     );
     println!(
-        "  {} with a web span, {} with a mail span, {} marked links, {} of {} states called",
+        "  {} with a web span, {} with a mail span, {} of {} states called",
         t.with_web,
         t.with_mail,
-        t.marked,
         t.called.count_ones(),
         expected::machine::STATES
     );
@@ -112,8 +112,32 @@ fn report(title: &str, t: &Tally, seconds: f64) {
         t.open_met, t.open_spans, t.open_steps
     );
     println!(
-        "  place 2, dot first: met in {}; place 3, Xmpp resource: met in {}; other mail spans in {}",
-        t.dot_met, t.resource_met, t.mail_differs
+        "  place 2, dot first: met in {}; place 3, Xmpp resource: met in {}",
+        t.dot_met, t.resource_met
+    );
+    report_resolved("without links", &t.unmarked);
+    report_resolved("with links", &t.marked);
+}
+
+/// In how many lists the published events are ours, in how many each place shows, and which places show together.
+fn report_resolved(title: &str, t: &ResolvedTally) {
+    let needed = || Way::ALL.iter().map(|way| way.places()).zip(t.needed);
+    let shows = |place| needed().filter(|n| n.0.contains(&place)).map(|n| n.1).sum::<u64>();
+    let together: Vec<String> = needed()
+        .filter(|n| n.0.len() > 1)
+        .map(|n| format!("{:?} in {}", n.0, n.1))
+        .collect();
+    println!(
+        "  resolved {}: {} lists, {} links, {} events; the same in {}; place 1 shows in {}, 2 in {}, 3 in {}; together {}",
+        title,
+        t.lists,
+        t.links,
+        t.events,
+        t.needed[0],
+        shows(1),
+        shows(2),
+        shows(3),
+        together.join(", ")
     );
 }
 
@@ -125,7 +149,7 @@ fn by_chance(note: &[u8], sets: &[Set], chance: &mut Chance, tally: &mut Tally) 
     } else {
         Calls::split(note, set, chance)
     };
-    compare(note, set, &calls, Some(chance), tally).map(drop)
+    compare(note, set, &calls, chance, tally).map(drop)
 }
 
 /// All short notes of an alphabet behind an opening; each eighth in pieces and with a set in turn.
@@ -136,12 +160,12 @@ fn short(opening: &[u8], alphabet: &[u8], most: usize, sets: &[Set], share: (usi
         if number % share.1 != share.0 || result.is_err() {
             return;
         }
-        result = compare(note, &sets[1], &Calls::one_push(note), None, tally).map(drop);
+        let mut chance = Chance::new(number as u64);
+        result = compare(note, &sets[1], &Calls::one_push(note), &mut chance, tally).map(drop);
         if number % 8 == 0 && result.is_ok() {
-            let mut chance = Chance::new(number as u64);
             let set = &sets[chance.below(4)];
             let calls = Calls::split(note, set, &mut chance);
-            result = compare(note, set, &calls, Some(&mut chance), tally).map(drop);
+            result = compare(note, set, &calls, &mut chance, tally).map(drop);
         }
     });
     result
@@ -174,14 +198,14 @@ fn main() {
             (0..32).try_for_each(|k| {
                 let mut chance = Chance::new((i * 32 + k) as u64);
                 let calls = Calls::split(&row.note, &sets[k % 4], &mut chance);
-                compare(&row.note, &sets[k % 4], &calls, Some(&mut chance), tally).map(drop)
+                compare(&row.note, &sets[k % 4], &calls, &mut chance, tally).map(drop)
             })
         })
     }));
     all.add(&part("the notes known to need the most steps", 1, |_, tally| {
         made::worst()
             .iter()
-            .try_for_each(|note| compare(note, &sets[1], &Calls::one_push(note), None, tally).map(drop))
+            .try_for_each(|note| compare(note, &sets[1], &Calls::one_push(note), &mut Chance::new(0), tally).map(drop))
     }));
     all.add(&part(
         &format!("all notes up to {} bytes over {} bytes", options.telling, made::TELLING.len()),

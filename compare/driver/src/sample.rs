@@ -1,7 +1,8 @@
-//! The fixed list: published answers on notes where no named difference is met.
+//! The fixed list: published answers on notes where no named difference shows.
 
-use crate::compare::{compare, hex, numbers, Answers, Calls, Tally};
+use crate::compare::{compare, event_numbers, hex, numbers, Answers, Calls, Resolved, Tally};
 use crate::sets::Set;
+use expected::Way;
 use notes::chance::Chance;
 use notes::made;
 use notes::tables::Row;
@@ -9,28 +10,35 @@ use notes::tables::Row;
 /// Allowance that no note uses up, in place of the largest number.
 const AMPLE: u64 = 1_000_000_000;
 
-/// A line: the note behind an `x`, the set, the number of pushes, each push, the number of answers, the answers.
-fn line(note: &[u8], set: usize, calls: &Calls, answers: &Answers) -> String {
-    let numbers = numbers(&answers.pushes, answers.end, &answers.joined);
-    let mut line = format!("x{} {} {}", hex(note), set, calls.pushes.len());
-    let pushes = calls.pushes.iter().flat_map(|p| [p.0 as u64, p.1]);
-    for number in pushes.chain([numbers.len() as u64]).chain(numbers) {
-        line += &format!(" {}", number);
-    }
-    line
+/// A line: the note behind an `x`, the set, the number of pushes, each push, the number of links, each link, the number
+/// of answers, the answers.
+fn line(note: &[u8], set: usize, calls: &Calls, answers: &Answers, resolved: &Resolved) -> String {
+    let mut given = numbers(&answers.pushes, answers.end, &answers.joined);
+    given.extend(event_numbers(&resolved.events));
+    let links = &resolved.links;
+    let mut numbers = vec![set as u64, calls.pushes.len() as u64];
+    numbers.extend(calls.pushes.iter().flat_map(|push| [push.0 as u64, push.1]));
+    numbers.push(links.len() as u64);
+    numbers.extend(links.iter().flat_map(|link| [link.0 as u64, link.1 as u64]));
+    numbers.push(given.len() as u64);
+    numbers.extend(given);
+    let words = numbers.iter().map(|number| format!(" {}", number));
+    format!("x{}{}", hex(note), words.collect::<String>())
 }
 
 /// Prints `count` lines: each note of the documents once, then structured notes whose length class goes round.
 pub fn print(count: usize, rows: &[Row], sets: &[Set]) {
-    let (mut tally, mut lines, mut called): (Tally, Vec<String>, u32) = (Tally::default(), vec![], 0);
-    let mut keep = |note: &[u8], set: usize, mut calls: Calls| {
+    let (mut tally, mut lines, mut called, mut with_links) = (Tally::default(), Vec::<String>::new(), 0_u32, 0);
+    let mut keep = |note: &[u8], set: usize, mut calls: Calls, chance: &mut Chance| {
         calls.pushes.iter_mut().for_each(|push| push.1 = push.1.min(AMPLE));
         calls.ends.clear();
-        let answers = compare(note, &sets[set], &calls, None, &mut tally).unwrap_or_else(|what| panic!("{}", what));
-        if !answers.open_met && lines.len() < count {
-            let line = line(note, set, &calls, &answers);
+        let answers = compare(note, &sets[set], &calls, chance, &mut tally).unwrap_or_else(|what| panic!("{}", what));
+        let resolved = if chance.one_in(2) { &answers.unmarked } else { &answers.marked };
+        if !answers.open_met && resolved.way == Way::OURS && lines.len() < count {
+            let line = line(note, set, &calls, &answers, resolved);
             if !lines.contains(&line) {
                 called |= answers.called;
+                with_links += usize::from(!resolved.links.is_empty());
                 lines.push(line);
             }
         }
@@ -44,7 +52,7 @@ pub fn print(count: usize, rows: &[Row], sets: &[Set]) {
             } else {
                 Calls::split(&row.note, &sets[set], &mut chance)
             };
-            keep(&row.note, set, calls);
+            keep(&row.note, set, calls, &mut chance);
         }
     }
     const LENGTHS: [(usize, usize); 8] = [
@@ -68,7 +76,7 @@ pub fn print(count: usize, rows: &[Row], sets: &[Set]) {
             Calls::split(&note, &sets[set], &mut chance)
         };
         // Long rows of small pushes add little that short notes do not show.
-        if calls.pushes.len() <= 40 && keep(&note, set, calls) == count {
+        if calls.pushes.len() <= 40 && keep(&note, set, calls, &mut chance) == count {
             break;
         }
     }
@@ -76,8 +84,9 @@ pub fn print(count: usize, rows: &[Row], sets: &[Set]) {
         println!("{}", line);
     }
     eprintln!(
-        "{} lines, {} of {} states called, {} pauses",
+        "{} lines, {} with links, {} of {} states called, {} pauses",
         lines.len(),
+        with_links,
         called.count_ones(),
         expected::machine::STATES,
         tally.paused

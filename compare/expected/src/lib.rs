@@ -1,8 +1,8 @@
 //! A third opinion: docs/RULES.md and docs/ENGINE.md, written down once more in plain Rust.
 //!
-//! `Place1`, `Place2` and `Place3` of docs/DIFFERENCES.md can each be read in our way or in the published way.
-//! In the published way this module has to give the published answers on every note, so a named difference is
-//! no hole in the comparison.
+//! Each of the three places of docs/DIFFERENCES.md can be read in our way or in the published way. With all three
+//! read in the published way, this module has to give the published answers on every note, so a named difference
+//! is no hole in the comparison.
 
 pub mod characters;
 pub mod edits;
@@ -10,11 +10,45 @@ pub mod machine;
 pub mod mail;
 pub mod web;
 
-/// Whose answer is wanted where docs/DIFFERENCES.md names a difference.
+/// Which of the three places of docs/DIFFERENCES.md are read in the published way; the others are read in ours.
 #[derive(Clone, Copy, Debug, PartialEq, Eq)]
-pub enum Way {
-    Ours,
-    Published,
+pub struct Way {
+    /// Place 1: a `)` while a parenthesis is open is an item of a trail.
+    pub open_parenthesis: bool,
+    /// Place 2: a mail domain may begin with a dot.
+    pub dot_first: bool,
+    /// Place 3: a `/` of an Xmpp is part of its domain, and no `@` after it.
+    pub resource: bool,
+}
+
+impl Way {
+    pub const OURS: Way = Way::of(false, false, false);
+    pub const PUBLISHED: Way = Way::of(true, true, true);
+    /// All ways, those with fewer places in the published way first.
+    pub const ALL: [Way; 8] = [
+        Way::OURS,
+        Way::of(true, false, false),
+        Way::of(false, true, false),
+        Way::of(false, false, true),
+        Way::of(true, true, false),
+        Way::of(true, false, true),
+        Way::of(false, true, true),
+        Way::PUBLISHED,
+    ];
+
+    const fn of(open_parenthesis: bool, dot_first: bool, resource: bool) -> Way {
+        Way {
+            open_parenthesis,
+            dot_first,
+            resource,
+        }
+    }
+
+    /// The numbers of the places that are read in the published way.
+    pub fn places(self) -> Vec<usize> {
+        let published = [self.open_parenthesis, self.dot_first, self.resource];
+        (1..=3).filter(|place| published[place - 1]).collect()
+    }
 }
 
 pub const DATA: u64 = 0;
@@ -62,11 +96,11 @@ pub fn events_of(note: &[u8], spans: &[Span]) -> Vec<Event> {
         .collect()
 }
 
-/// What resolve makes of a list of spans (RULES.md, section 13): links are runs of spans, first and last.
+/// What resolve makes of a list of spans (RULES.md, section 13): links are runs of their events, first and last.
 pub fn resolved(note: &[u8], spans: &[Span], links: &[(usize, usize)], way: Way) -> Vec<Event> {
     let mut all = vec![];
     for (i, &(name, first, end)) in spans.iter().enumerate() {
-        let inside = links.iter().find(|l| l.0 <= i && i <= l.1);
+        let inside = links.iter().find(|l| l.0 <= 2 * i && 2 * i < l.1);
         let split = |(name, first, end): Span| {
             if name == DATA && inside.is_none() {
                 let cut = mail::split(&note[first..end], way);
@@ -80,11 +114,11 @@ pub fn resolved(note: &[u8], spans: &[Span], links: &[(usize, usize)], way: Way)
             event[0] = kind;
             event
         };
-        if inside.map_or(false, |l| l.0 == i) {
+        if inside.map_or(false, |l| l.0 == 2 * i) {
             all.push(edge(ENTER, first));
         }
         all.extend(events_of(note, &split((name, first, end))));
-        if inside.map_or(false, |l| l.1 == i) {
+        if inside.map_or(false, |l| l.1 == 2 * i + 1) {
             all.push(edge(EXIT, end));
         }
     }

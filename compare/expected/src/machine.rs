@@ -466,7 +466,7 @@ impl<'a> Machine<'a> {
             State::Trail => {
                 if shown == Some(b')') && open {
                     self.met = true;
-                    if self.way == Way::Ours {
+                    if !self.way.open_parenthesis {
                         return Nok;
                     }
                 }

@@ -34,18 +34,20 @@ pub fn addresses(data: &[u8], way: Way) -> (Vec<Span>, bool, bool) {
         };
         let stop = |from: usize, more: &[u8]| (from..).find(|i| !goes_on(*i, more)).unwrap();
         let d = k + 1;
-        let ours = stop(d, b"-_");
-        let whole = |end: usize| end > d && data[d..end].contains(&b'.') && data[end - 1].is_ascii_alphabetic();
-        let starts_with_dot = d < ours && data[d] == b'.';
+        let host_end = stop(d, b"-_");
+        let starts_with_dot = d < host_end && data[d] == b'.';
+        let slash = name == XMPP && data.get(host_end) == Some(&b'/');
         dot_first |= starts_with_dot;
-        resource |= name == XMPP && data.get(ours) == Some(&b'/');
-        let end = match way {
-            Way::Ours if !whole(ours) || starts_with_dot => None,
-            Way::Ours if name == XMPP && data.get(ours) == Some(&b'/') && goes_on(ours + 1, b"@") => Some(stop(ours + 1, b"@")),
-            Way::Ours => Some(ours),
-            Way::Published => Some(stop(d, if name == XMPP { b"-_/" } else { b"-_" })).filter(|end| whole(*end)),
-        };
-        if let Some(end) = end {
+        resource |= slash;
+        let domain_end = if way.resource && slash { stop(d, b"-_/") } else { host_end };
+        let domain = &data[d..domain_end];
+        let whole = domain.contains(&b'.') && domain.last().map_or(false, u8::is_ascii_alphabetic);
+        if whole && (way.dot_first || !starts_with_dot) {
+            let end = if slash && !way.resource && goes_on(host_end + 1, b"@") {
+                stop(host_end + 1, b"@")
+            } else {
+                domain_end
+            };
             found.push((name, start, end));
             c = end;
         }

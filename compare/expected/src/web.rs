@@ -63,9 +63,10 @@ fn path_end(note: &[u8], e: usize, set: Set, way: Way) -> (usize, bool) {
             b'!' | b'"' | b'&' | b'\'' | b')' | b'*' | b',' | b'.' | b':' | b';' | b'<' | b'?' | b']' | b'_' | b'~' => {
                 let ours = run(note, p, set, open);
                 met |= ours == Run::Open;
-                let ends = match way {
-                    Way::Ours => ours == Run::Stop,
-                    Way::Published => run(note, p, set, false) == Run::Stop && !(open && note[p] == b')'),
+                let ends = if way.open_parenthesis {
+                    run(note, p, set, false) == Run::Stop && !(open && note[p] == b')')
+                } else {
+                    ours == Run::Stop
                 };
                 if ends {
                     return (p, met);

@@ -118,8 +118,17 @@ impl<'a> Reader<'a> {
         events.truncate(kept);
     }
 
-    /// Puts links around runs of events, then calls the published resolver of literal links.
-    pub fn resolve(&mut self, links: &[(usize, usize)]) {
+    /// The events once links are put around runs of them and the published resolver of literal links is called.
+    /// The reader keeps its events as they are.
+    pub fn resolved(&mut self, links: &[(usize, usize)]) -> Vec<[u64; 6]> {
+        let kept = self.tokenizer.events.clone();
+        self.resolve(links);
+        let resolved = self.events();
+        self.tokenizer.events = kept;
+        resolved
+    }
+
+    fn resolve(&mut self, links: &[(usize, usize)]) {
         let tokenizer = &mut self.tokenizer;
         for (first, last) in links {
             let edge = |kind: Kind, at: usize| Event {
