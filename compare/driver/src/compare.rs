@@ -167,17 +167,21 @@ impl Tally {
     }
 }
 
-/// The numbers that `read_note` writes: two for each push, two for the end, then the events.
-pub fn numbers(pushes: &[(u64, bool)], end: u64, events: &[Event]) -> Vec<u64> {
+/// The numbers that `read_note` writes: two for each push, two for the end; then the count of events and six for each,
+/// and the same of the resolved events.
+pub fn numbers(pushes: &[(u64, bool)], end: u64, events: &[Event], resolved: &[Event]) -> Vec<u64> {
     let mut out: Vec<u64> = pushes.iter().flat_map(|(steps, done)| [*steps, u64::from(*done)]).collect();
     out.extend([end, 1]);
-    out.extend(event_numbers(events));
+    for events in [events, resolved] {
+        out.push(events.len() as u64);
+        out.extend(events.iter().flatten());
+    }
     out
 }
 
-/// The numbers that `resolve_note` writes: the count of events, and six for each.
-pub fn event_numbers(events: &[Event]) -> Vec<u64> {
-    [events.len() as u64].into_iter().chain(events.iter().flatten().copied()).collect()
+/// Pairs of numbers one after another, as `read_note` takes them.
+pub fn row(pairs: &[(usize, usize)]) -> Vec<u64> {
+    pairs.iter().flat_map(|pair| [pair.0 as u64, pair.1 as u64]).collect()
 }
 
 pub fn hex(bytes: &[u8]) -> String {
@@ -356,16 +360,6 @@ fn compared(note: &[u8], set: &Set, calls: &Calls, chance: &mut Chance, tally: &
 
     let kinds = compared_kinds(note, set)?;
 
-    // The proved reader: ours on every note, so the published answer wherever no parenthesis is met.
-    if library::LINKED {
-        let pushes: Vec<u64> = calls.pushes.iter().flat_map(|p| [p.0 as u64, p.1]).collect();
-        let read = library::read_note(note, &set.row, &pushes);
-        same!(read, Ok(numbers(&ours, our_end, our_way.events())), "read_note and expected");
-        if !open_met {
-            same!(read, Ok(numbers(&made, end, &joined)), "read_note and published");
-        }
-    }
-
     let (mut dot_met, mut resource_met) = (false, false);
     for &(_, first, end) in published_cut.iter().filter(|span| span.0 == DATA) {
         let (_, dot, resource) = mail::addresses(&note[first..end], Way::PUBLISHED);
@@ -379,6 +373,30 @@ fn compared(note: &[u8], set: &Set, calls: &Calls, chance: &mut Chance, tally: &
     let ended = Ended { note, cut, published_cut };
     let unmarked = compared_resolved(&ended, &mut reader, vec![], &mut tally.unmarked)?;
     let marked = compared_resolved(&ended, &mut reader, links, &mut tally.marked)?;
+
+    // The proved reader: ours on every note, so the published answer wherever no named difference is met.
+    if library::LINKED {
+        let pushes: Vec<u64> = calls.pushes.iter().flat_map(|p| [p.0 as u64, p.1]).collect();
+        for Resolved { links, events, way } in [&unmarked, &marked] {
+            let read = library::read_note(note, &set.row, &pushes, &row(links));
+            let resolved = resolved(note, &ended.cut, links, Way::OURS);
+            same!(
+                read,
+                Ok(numbers(&ours, our_end, our_way.events(), &resolved)),
+                "read_note with links {:?}: proved and expected",
+                links
+            );
+            if !open_met && *way == Way::OURS {
+                same!(
+                    read,
+                    Ok(numbers(&made, end, &joined, events)),
+                    "read_note with links {:?}: proved and published",
+                    links
+                );
+            }
+        }
+    }
+
     let has_mail = unmarked.events.iter().any(|event| (EMAIL..=XMPP).contains(&event[1]));
 
     tally.notes += 1;

@@ -1,6 +1,6 @@
 //! The fixed list: published answers on notes where no named difference shows.
 
-use crate::compare::{compare, event_numbers, hex, numbers, Answers, Calls, Resolved, Tally};
+use crate::compare::{compare, hex, numbers, row, Answers, Calls, Resolved, Tally};
 use crate::sets::Set;
 use expected::Way;
 use notes::chance::Chance;
@@ -13,13 +13,12 @@ const AMPLE: u64 = 1_000_000_000;
 /// A line: the note behind an `x`, the set, the number of pushes, each push, the number of links, each link, the number
 /// of answers, the answers.
 fn line(note: &[u8], set: usize, calls: &Calls, answers: &Answers, resolved: &Resolved) -> String {
-    let mut given = numbers(&answers.pushes, answers.end, &answers.joined);
-    given.extend(event_numbers(&resolved.events));
-    let links = &resolved.links;
+    let given = numbers(&answers.pushes, answers.end, &answers.joined, &resolved.events);
+    let links = row(&resolved.links);
     let mut numbers = vec![set as u64, calls.pushes.len() as u64];
     numbers.extend(calls.pushes.iter().flat_map(|push| [push.0 as u64, push.1]));
-    numbers.push(links.len() as u64);
-    numbers.extend(links.iter().flat_map(|link| [link.0 as u64, link.1 as u64]));
+    numbers.push(resolved.links.len() as u64);
+    numbers.extend(links);
     numbers.push(given.len() as u64);
     numbers.extend(given);
     let words = numbers.iter().map(|number| format!(" {}", number));

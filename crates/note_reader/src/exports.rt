@@ -18,16 +18,17 @@ pub extern "C" fn read_whole(heap: Global, note: &[u8]) -> Reading {
     })
 }
 
-// Reads a note in parts. Answers how many numbers were written, or the code of the refusal.
+// Reads a note in parts, and resolves links. Answers how many numbers were written, or the code of the refusal.
 #[unsafe(no_mangle)]
 pub extern "C" fn read_note(
     heap: Global,
     note: &[u8],
     ranges: &[u32],
     pushes: &[u64],
+    links: &[u64],
     out: &mut [u64],
 ) -> u64 {
-    answer(read_in_parts(heap, note, ranges, pushes, out))
+    answer(read_in_parts(heap, note, ranges, pushes, links, out))
 }
 
 // The kind of the character at each place of a note, the end among them: 0 white space, 1 punctuation, 2 other.

@@ -54,12 +54,22 @@ fn put_events(reader: &Reader<RangeList<'_>>, out: &mut Numbers<'_>) -> Result<(
     Ok(())
 }
 
-// The pushes (pairs of `to` and allowance) and one end without limit: what each answers, then the events.
+fn mark_all(reader: &mut Reader<RangeList<'_>>, links: &[u64]) -> Result<(), Fault> {
+    let (pairs, _) = links.as_chunks::<2>();
+    for [first, last] in pairs {
+        reader.link(*first as usize, *last as usize)?;
+    }
+    Ok(())
+}
+
+// The pushes (pairs of `to` and allowance) and one end without limit: what each answers, then the events. Then the links (pairs of
+// the first and the last event) marked in turn, and the resolved events.
 pub fn read_in_parts(
     heap: Global,
     note: &[u8],
     ranges: &[u32],
     pushes: &[u64],
+    links: &[u64],
     out: &mut [u64],
 ) -> Result<usize, Failure> {
     let mut reader = Reader::new(heap, RangeList::new(ranges))?;
@@ -68,6 +78,9 @@ pub fn read_in_parts(
     push_all(&mut reader, pushes, &mut numbers)?;
     let ran = reader.end(u64::MAX)?;
     put_ran(&mut numbers, ran)?;
+    put_events(&reader, &mut numbers)?;
+    mark_all(&mut reader, links)?;
+    reader.resolve()?;
     put_events(&reader, &mut numbers)?;
     Ok(numbers.used)
 }

@@ -9,6 +9,7 @@ use Rattle.machine.specs.declared.events.EventKind.TheVariants.{Enter, Exit}
 use Rattle.machine.specs.declared.events.Name.{Name}
 use Rattle.machine.specs.declared.events.Name.TheVariants.{Data, LineEnding, Link, Address}
 use Rattle.machine.specs.declared.runs.Ran.{Ran}
+use Rattle.calls.specs.declared.links.MarkedRun.{MarkedRun}
 use Rattle.recorded_answers.specs.declared.lines.RecordedNote.{RecordedNote}
 use Rattle.recorded_answers.specs.declared.records.Push.{Push}
 use Rattle.recorded_answers.specs.declared.sets.ListedSet.{ListedSet}
@@ -49,12 +50,21 @@ abbrev pub event_numbers : Event → List ℕ
 event_numbers e =
     kind_number e.kind ∷ name_number e.name ∷ e.point.line ∷ e.point.column ∷ e.point.index ∷ e.point.vs ∷ []
 
--- what the calls answered, then the number of events and the events
-abbrev pub answer_numbers : Said → List ℕ
-answer_numbers a = flat_map ran_numbers a.runs ++ (length a.events ∷ flat_map event_numbers a.events)
+abbrev pub link_numbers : MarkedRun → List ℕ
+link_numbers l = l.first ∷ l.last ∷ []
 
--- all numbers of a line: the set, the number of pushes, the pushes, the number of the numbers that follow
+-- how many there are, then the numbers of each
+abbrev pub counted_numbers : {T : Type 0} → (T → List ℕ) → List T → List ℕ
+counted_numbers numbers xs = length xs ∷ flat_map numbers xs
+
+-- what the calls answered, then the events at the end and the resolved ones
+abbrev pub answer_numbers : Said → List ℕ
+answer_numbers a =
+    flat_map ran_numbers a.runs ++ (counted_numbers event_numbers a.events ++ counted_numbers event_numbers a.resolved)
+
+-- all numbers of a line: the set, the pushes, the links, the number of the numbers that follow
 abbrev pub line_numbers : RecordedNote → List ℕ
 line_numbers r =
-    set_number r.set ∷ length r.pushes.items ∷ (flat_map push_numbers r.pushes.items
-    ++ (length (answer_numbers (said r.answers)) ∷ answer_numbers (said r.answers)))
+    set_number r.set ∷ (counted_numbers push_numbers r.pushes.items
+    ++ (counted_numbers link_numbers r.links.items
+    ++ (length (answer_numbers (said r.answers)) ∷ answer_numbers (said r.answers))))

@@ -5,11 +5,12 @@ ghost use Rattle.recorded_answers.specs.Agreement.{said, IsFirstUnlike, IsFirstD
 use machine::{Event, Ran};
 use thiserror::Error;
 
-// What each push and the end answered, in turn, and the events once the end is done.
+// What each push and the end answered, in turn, the events once the end is done, and those once links and mail are resolved.
 #[derive(Drop)]
 pub struct Answers {
     pub runs: Vec<Ran>,
     pub events: Vec<Event>,
+    pub resolved: Vec<Event>,
 }
 
 // A place in two lists, from 0, and what each has there.
@@ -26,9 +27,12 @@ pub enum Difference {
     Run(Unlike<Ran>),
     #[error("event {}: {:?} is recorded, {:?} given", .0.place, .0.recorded, .0.given)]
     Event(Unlike<Event>),
+    #[error("resolved event {}: {:?} is recorded, {:?} given", .0.place, .0.recorded, .0.given)]
+    Resolved(Unlike<Event>),
 }
 
-// Accepts equal answers; otherwise tells the first call that answered something else, or else the first other event.
+// Accepts equal answers; otherwise tells the first call that answered something else, or else the first other event at the
+// end, or else the first other resolved event.
 pub fn check_agreement(recorded: &Answers, given: &Answers) -> Result<(), Difference>
     ensures agree { IsOk result ↔ (said recorded.now ≡ said given.now) }
     ensures first { IfErr result (λ d. IsFirstDifference (said recorded.now) (said given.now) d) }
@@ -38,6 +42,9 @@ pub fn check_agreement(recorded: &Answers, given: &Answers) -> Result<(), Differ
     }
     if let Some(unlike) = first_unlike(&recorded.events, &given.events) {
         return Err(Difference::Event(unlike));
+    }
+    if let Some(unlike) = first_unlike(&recorded.resolved, &given.resolved) {
+        return Err(Difference::Resolved(unlike));
     }
     Ok(())
 }

@@ -5,19 +5,21 @@ ghost use Rattle.recorded_answers.specs.Agreement.{said};
 ghost use Rattle.recorded_answers.specs.Format.{set_number, answer_numbers, line_numbers};
 
 use crate::answers::Answers;
-use crate::records::{Listed, Push, read_all};
+use crate::records::{Listed, Push, read_all, read_counted};
 use crate::sets::ListedSet;
+use calls::MarkedRun;
 use hex::FromHexError;
 use machine::Ran;
 use std::alloc::{AllocError, AllocFailed, Global};
 use thiserror::Error;
 
-// How a note was read, and what was answered.
+// How a note was read, which links were marked, and what was answered.
 #[derive(Drop)]
 pub struct RecordedNote {
     pub note: Vec<u8>,
     pub set: ListedSet,
     pub pushes: Vec<Push>,
+    pub links: Vec<MarkedRun>,
     pub answers: Answers,
 }
 
@@ -94,20 +96,22 @@ fn parse_record(heap: Global, note: Vec<u8>, numbers: &[u64]) -> Result<Recorded
     ensures runs { IfOk result (λ r. length r.answers.runs.items ≡ length r.pushes.items + 1) }
     ensures note { IfOk result (λ r. r.note ≡ note) }
 {
-    let [set, push_count, rest @ ..] = numbers else {
+    let [set, rest @ ..] = numbers else {
         return Err(LineError::TooFewNumbers);
     };
     let set = parse_set(*set)?;
-    let (pushes, rest) = read_all(heap, rest, *push_count)?;
+    let (pushes, rest) = read_counted(heap, rest)?;
+    let (links, rest) = read_counted(heap, rest)?;
     let [answer_count, rest @ ..] = rest else {
         return Err(LineError::TooFewNumbers);
     };
     check_count(rest, *answer_count)?;
-    let answers = parse_answers(heap, rest, *push_count)?;
+    let answers = parse_answers(heap, rest, pushes.len() as u64)?;
     Ok(RecordedNote {
         note,
         set,
         pushes,
+        links,
         answers,
     })
 }
@@ -120,12 +124,14 @@ fn parse_answers(heap: Global, numbers: &[u64], push_count: u64) -> Result<Answe
     let (mut runs, rest) = read_all(heap, numbers, push_count)?;
     let (end, rest) = Ran::read(rest)?;
     runs.push(end)?;
-    let [event_count, rest @ ..] = rest else {
-        return Err(LineError::TooFewNumbers);
-    };
-    let (events, rest) = read_all(heap, rest, *event_count)?;
+    let (events, rest) = read_counted(heap, rest)?;
+    let (resolved, rest) = read_counted(heap, rest)?;
     check_count(rest, 0)?;
-    Ok(Answers { runs, events })
+    Ok(Answers {
+        runs,
+        events,
+        resolved,
+    })
 }
 
 fn check_count(numbers: &[u64], count: u64) -> Result<(), LineError>

@@ -1,9 +1,10 @@
 // What a line of the list records, written as numbers: compare/README.md, the fixed list.
-ghost use Rattle.std.specs.Prelude.{◌≡◌, ℕ, List, ◌++◌, length, IfOk};
+ghost use Rattle.std.specs.Prelude.{◌≡◌, ℕ, List, ◌∷◌, ◌++◌, length, IfOk};
 ghost use Rattle.std.specs.List.{flat_map};
-ghost use Rattle.recorded_answers.specs.Format.{done_number, kind_number, name_number, push_numbers, ran_numbers, event_numbers};
+ghost use Rattle.recorded_answers.specs.Format.{done_number, kind_number, name_number, push_numbers, ran_numbers, event_numbers, link_numbers, counted_numbers};
 
 use crate::lines::LineError;
+use calls::MarkedRun;
 use machine::{Event, EventKind, Name, Ran};
 use std::alloc::Global;
 use text::{Point, SpanKind};
@@ -54,6 +55,21 @@ impl Listed for Ran {
     }
 }
 
+impl Listed for MarkedRun {
+    ghost numbers = { link_numbers };
+
+    fn read(line: &[u64]) -> Result<(MarkedRun, &[u64]), LineError> {
+        let [first, last, rest @ ..] = line else {
+            return Err(LineError::TooFewNumbers);
+        };
+        let link = MarkedRun {
+            first: *first as usize,
+            last: *last as usize,
+        };
+        Ok((link, rest))
+    }
+}
+
 impl Listed for Event {
     ghost numbers = { event_numbers };
 
@@ -92,6 +108,19 @@ pub fn read_all<T: Listed + Drop>(
         left = rest;
     }
     Ok((all, left))
+}
+
+// How many there are of a kind, these, and what is left.
+pub fn read_counted<T: Listed + Drop>(
+    heap: Global,
+    line: &[u64],
+) -> Result<(Vec<T>, &[u64]), LineError>
+    ensures { IfOk result (λ x. counted_numbers T.numbers x.0.items ++ x.1.now ≡ line.now) }
+{
+    let [count, rest @ ..] = line else {
+        return Err(LineError::TooFewNumbers);
+    };
+    read_all(heap, rest, *count)
 }
 
 fn parse_done(number: u64) -> Result<bool, LineError>

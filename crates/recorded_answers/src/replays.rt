@@ -4,13 +4,14 @@ ghost use Rattle.punctuation.specs.RangeLists.{range_member};
 ghost use Rattle.calls.specs.Calls.{load};
 ghost use Rattle.reader.specs.View.{view};
 ghost use Rattle.recorded_answers.specs.Agreement.{said};
-ghost use Rattle.recorded_answers.specs.Replays.{pushes_made, reading, replayed};
+ghost use Rattle.recorded_answers.specs.Replays.{links_marked, pushes_made, reading, replayed, resolving};
 ghost use Rattle.recorded_answers.specs.Sets.{set_numbers};
 
 use crate::answers::Answers;
 use crate::lines::RecordedNote;
 use crate::records::Push;
-use machine::Ran;
+use calls::MarkedRun;
+use machine::{Event, Ran};
 use punctuation::range_lists::RangeList;
 use punctuation::sets::PunctuationSet;
 use reader::Reader;
@@ -44,30 +45,42 @@ impl<T: Drop> From<AllocFailed<T>> for ReplayError {
     }
 }
 
-// Reads the note of a record with its set.
+// Reads the note of a record with its set, and resolves its links.
 pub fn replay(heap: Global, recorded: &RecordedNote) -> Result<Answers, ReplayError>
-    ensures { IfOk result (λ a. replayed (range_member (set_numbers recorded.now.set)) recorded.now.note.items recorded.now.pushes.items ≡ Ok (said a)) }
+    ensures { IfOk result (λ a. replayed (range_member (set_numbers recorded.now.set)) recorded.now.note.items recorded.now.pushes.items recorded.now.links.items ≡ Ok (said a)) }
 {
     let ranges = recorded.set.ranges(heap)?;
     let mut reader = Reader::new(heap, RangeList::new(&ranges))?;
-    read_note(heap, &mut reader, &recorded.note, &recorded.pushes)
+    read_note(
+        heap,
+        &mut reader,
+        &recorded.note,
+        &recorded.pushes,
+        &recorded.links,
+    )
 }
 
-// By the pushes and one end without limit.
+// By the pushes and one end without limit; then the links, and resolving.
 fn read_note<S: PunctuationSet>(
     heap: Global,
     reader: &mut Reader<S>,
     note: &[u8],
     pushes: &[Push],
+    links: &[MarkedRun],
 ) -> Result<Answers, ReplayError>
-    ensures { IfOk result (λ a. reading (S.member reader.old.engine.set) pushes.now (load (view reader.old) note.now) ≡ Ok (said a)) }
+    ensures { IfOk result (λ a. reading (S.member reader.old.engine.set) pushes.now links.now (load (view reader.old) note.now) ≡ Ok (said a)) }
 {
     reader.load(note)?;
     let mut runs = push_all(heap, reader, pushes)?;
     let ran = reader.end(u64::MAX)?;
     runs.push(ran)?;
     let events = Vec::from_slice(heap, reader.events())?;
-    Ok(Answers { runs, events })
+    let resolved = resolve_links(heap, reader, links)?;
+    Ok(Answers {
+        runs,
+        events,
+        resolved,
+    })
 }
 
 fn push_all<S: PunctuationSet>(
@@ -84,4 +97,29 @@ fn push_all<S: PunctuationSet>(
         runs.push(ran)?;
     }
     Ok(runs)
+}
+
+fn resolve_links<S: PunctuationSet>(
+    heap: Global,
+    reader: &mut Reader<S>,
+    links: &[MarkedRun],
+) -> Result<Vec<Event>, ReplayError>
+    ensures { IfOk result (λ events. resolving (view reader.old) links.now ≡ Ok events.items) }
+{
+    mark_all(reader, links)?;
+    reader.resolve()?;
+    let events = Vec::from_slice(heap, reader.events())?;
+    Ok(events)
+}
+
+fn mark_all<S: PunctuationSet>(
+    reader: &mut Reader<S>,
+    links: &[MarkedRun],
+) -> Result<(), ReplayError>
+    ensures { IfOk result (λ _. links_marked (view reader.old) links.now ≡ Ok (view reader.new)) }
+{
+    for link in links {
+        reader.link(link.first, link.last)?;
+    }
+    Ok(())
 }

@@ -18,6 +18,7 @@ returns g c =
     (view c.end.new.self)
     c.args.note.now
     c.args.pushes.now
+    c.args.links.now
     c.in_ok-runs.runs.items
     c.in_ok-ran.ran
     c.in_ok-load.ensures.answer
@@ -25,5 +26,7 @@ returns g c =
     c.in_ok-ran.ensures.answer
     c.push.new.self.items
     c.in_ok-events.events.items
+    c.in_ok-resolved.resolved.items
     c.in_ok-push.ensures.items
     (c.in_ok-events.ensures.items ∙ c.events.ensures)
+    c.in_ok-resolved.ensures
