@@ -2,7 +2,7 @@
 ghost use Rattle.std.specs.Prelude.{◌≡◌, IfOk};
 ghost use Rattle.punctuation.specs.RangeLists.{range_member};
 ghost use Rattle.calls.specs.Calls.{load};
-ghost use Rattle.reader.specs.View.{view};
+ghost use Rattle.reader.specs.View.{meaning_of, view};
 ghost use Rattle.recorded_answers.specs.Agreement.{said};
 ghost use Rattle.recorded_answers.specs.Replays.{links_marked, pushes_made, reading, replayed, resolving};
 ghost use Rattle.recorded_answers.specs.Sets.{set_numbers};
@@ -68,7 +68,7 @@ fn read_note<S: PunctuationSet>(
     pushes: &[Push],
     links: &[MarkedRun],
 ) -> Result<Answers, ReplayError>
-    ensures { IfOk result (λ a. reading (S.member reader.old.engine.set) pushes.now links.now (load (view reader.old) note.now) ≡ Ok (said a)) }
+    ensures { IfOk result (λ a. reading (meaning_of reader.old) pushes.now links.now (load (view reader.old) note.now) ≡ Ok (said a)) }
 {
     reader.load(note)?;
     let mut runs = push_all(heap, reader, pushes)?;
@@ -88,8 +88,8 @@ fn push_all<S: PunctuationSet>(
     reader: &mut Reader<S>,
     pushes: &[Push],
 ) -> Result<Vec<Ran>, ReplayError>
-    ensures answer { IfOk result (λ runs. pushes_made (S.member reader.old.engine.set) (view reader.old) pushes.now ≡ Ok (view reader.new, runs.items)) }
-    ensures meaning_stays { S.member reader.new.engine.set ≡ S.member reader.old.engine.set }
+    ensures answer { IfOk result (λ runs. pushes_made (meaning_of reader.old) (view reader.old) pushes.now ≡ Ok (view reader.new, runs.items)) }
+    ensures meaning_stays { meaning_of reader.new ≡ meaning_of reader.old }
 {
     let mut runs = Vec::new(heap);
     for push in pushes {

@@ -1,16 +1,15 @@
 use Rattle.std.proofs.Common.{◌∙◌, ap}
-use Rattle.reader.specs.View.{view}
+use Rattle.reader.specs.View.{meaning_of, view}
 use Rattle.recorded_answers.proofs.Pushes.{read_through}
 use Rattle.recorded_answers.proofs.replays.read_note.Goals as goal
 
 pub returns : goal.returns
 returns g c =
-    let member = g.S.PunctuationSet.member in
     read_through
-    (member c.args.reader.now.engine.set)
-    (member c.load.new.self.engine.set)
-    (member c.push_all.new.reader.engine.set)
-    (ap member c.load.ensures.set)
+    (meaning_of c.args.reader.now)
+    (meaning_of c.load.new.self)
+    (meaning_of c.push_all.new.reader)
+    (ap g.S.PunctuationSet.member c.load.ensures.set)
     c.push_all.ensures.meaning_stays
     (view c.args.reader.now)
     (view c.load.new.self)
