@@ -65,10 +65,11 @@ const MOST_LINKS: usize = 64;
 
 /// Runs that may be marked in an ended list of so many spans: each from an enter to a later exit, beyond the run before.
 fn links_by_chance(spans: usize, chance: &mut Chance) -> Links {
-    let gap = [1, 1, 3, 30][chance.below(4)];
+    let most = [1, 2, 8, MOST_LINKS][chance.below(4)];
+    let gap = [1, 2, 5, 30][chance.below(4)];
     let length = [1, 2, 5, 40][chance.below(4)];
     let (mut links, mut next) = (vec![], 0);
-    while links.len() < MOST_LINKS {
+    while links.len() < most {
         let first = next + chance.below(gap);
         if first >= spans {
             break;

@@ -1,6 +1,6 @@
 //! Compares the published sources with the rules and, if its library is linked, with the proved reader.
 //!
-//! `driver DOCS [--random N] [--changed N] [--edits N] [--kinds L] [--telling L] [--opened L] [--mail L] [--threads N]` compares;
+//! `driver DOCS [--random N] [--changed N] [--joined N] [--edits N] [--kinds L] [--telling L] [--opened L] [--mail L] [--threads N]` compares;
 //! `driver DOCS --sample N` prints the fixed list. DOCS is the folder of ENGINE.md, RULES.md and DIFFERENCES.md.
 
 mod compare;
@@ -22,6 +22,7 @@ struct Options {
     docs: String,
     random: usize,
     changed: usize,
+    joined: usize,
     edits: usize,
     kinds: usize,
     telling: usize,
@@ -38,6 +39,7 @@ fn options() -> Options {
         docs,
         random: 205_000,
         changed: 100_000,
+        joined: 100_000,
         edits: 1_000_000,
         kinds: 3,
         telling: 5,
@@ -54,6 +56,7 @@ fn options() -> Options {
         match arg.as_str() {
             "--random" => options.random = number,
             "--changed" => options.changed = number,
+            "--joined" => options.joined = number,
             "--edits" => options.edits = number,
             "--kinds" => options.kinds = number,
             "--telling" => options.telling = number,
@@ -238,6 +241,14 @@ fn main() {
         (thread..options.changed).step_by(threads).try_for_each(|i| {
             let mut chance = Chance::new(1 << 40 | i as u64);
             let note = made::changed(&rows[i % rows.len()].note, &mut chance);
+            by_chance(&note, &sets, &mut chance, tally)
+        })
+    }));
+    let texts: Vec<&[u8]> = rows.iter().map(|row| row.note.as_slice()).collect();
+    all.add(&part("notes of the documents, joined", threads, |thread, tally| {
+        (thread..options.joined).step_by(threads).try_for_each(|i| {
+            let mut chance = Chance::new(8 << 40 | i as u64);
+            let note = made::joined(&texts, &mut chance);
             by_chance(&note, &sets, &mut chance, tally)
         })
     }));

@@ -25,14 +25,15 @@ fn line(note: &[u8], set: usize, calls: &Calls, answers: &Answers, resolved: &Re
     format!("x{}{}", hex(note), words.collect::<String>())
 }
 
-/// Prints `count` lines: each note of the documents once, then structured notes whose length class goes round.
+/// Prints `count` lines: each note of the documents once, then in turn some of them joined, and structured notes whose
+/// length class goes round.
 pub fn print(count: usize, rows: &[Row], sets: &[Set]) {
     let (mut tally, mut lines, mut called, mut with_links) = (Tally::default(), Vec::<String>::new(), 0_u32, 0);
     let mut keep = |note: &[u8], set: usize, mut calls: Calls, chance: &mut Chance| {
         calls.pushes.iter_mut().for_each(|push| push.1 = push.1.min(AMPLE));
         calls.ends.clear();
         let answers = compare(note, &sets[set], &calls, chance, &mut tally).unwrap_or_else(|what| panic!("{}", what));
-        let resolved = if chance.one_in(2) { &answers.unmarked } else { &answers.marked };
+        let resolved = if chance.one_in(3) { &answers.unmarked } else { &answers.marked };
         if !answers.open_met && resolved.way == Way::OURS && lines.len() < count {
             let line = line(note, set, &calls, &answers, resolved);
             if !lines.contains(&line) {
@@ -64,10 +65,15 @@ pub fn print(count: usize, rows: &[Row], sets: &[Set]) {
         (256, 1023),
         (1024, 1025),
     ];
+    let texts: Vec<&[u8]> = rows.iter().map(|row| row.note.as_slice()).collect();
     for i in 0.. {
         let mut chance = Chance::new(5 << 40 | i as u64);
-        let (least, most) = LENGTHS[i % LENGTHS.len()];
-        let note = made::structured(least + chance.below(most - least), &mut chance);
+        let (least, most) = LENGTHS[i / 2 % LENGTHS.len()];
+        let note = if i % 2 == 0 {
+            made::joined(&texts, &mut chance)
+        } else {
+            made::structured(least + chance.below(most - least), &mut chance)
+        };
         let set = chance.below(4);
         let calls = if chance.one_in(3) {
             Calls::one_push(&note)

@@ -264,6 +264,17 @@ pub fn changed(note: &[u8], chance: &mut Chance) -> Vec<u8> {
     note
 }
 
+/// Two to six notes of these, one behind the other, with a space or a line ending between.
+pub fn joined(notes: &[&[u8]], chance: &mut Chance) -> Vec<u8> {
+    let mut note = chance.pick(notes).to_vec();
+    for _ in 0..1 + chance.below(5) {
+        note.extend_from_slice(chance.pick(&[&b" "[..], b"\n", b"\r\n"]));
+        note.extend_from_slice(chance.pick(notes));
+    }
+    note.truncate(LONGEST);
+    note
+}
+
 /// The notes known to need the most steps.
 pub fn worst() -> [Vec<u8>; 2] {
     let row = |parts: &[(&str, usize)]| parts.iter().flat_map(|(s, n)| s.repeat(*n).into_bytes()).collect();
