@@ -27,5 +27,5 @@ returns g c =
     c.in_ok-events.events.items
     c.in_ok-resolved.resolved.items
     c.in_ok-push.ensures.items
-    (c.in_ok-events.ensures.items ∙ c.events.ensures)
+    (c.in_ok-events.ensures.items ∙ c.events.ensures.events)
     c.in_ok-resolved.ensures
