@@ -44,6 +44,7 @@ pub fn print(count: usize, rows: &[Row], sets: &[Set]) {
         }
         lines.len()
     };
+    let mut of_documents = 0;
     for (i, row) in rows.iter().enumerate() {
         let mut chance = Chance::new(4 << 40 | i as u64);
         for set in [1, i % 4] {
@@ -52,7 +53,7 @@ pub fn print(count: usize, rows: &[Row], sets: &[Set]) {
             } else {
                 Calls::split(&row.note, &sets[set], &mut chance)
             };
-            keep(&row.note, set, calls, &mut chance);
+            of_documents = keep(&row.note, set, calls, &mut chance);
         }
     }
     const LENGTHS: [(usize, usize); 8] = [
@@ -89,8 +90,9 @@ pub fn print(count: usize, rows: &[Row], sets: &[Set]) {
         println!("{}", line);
     }
     eprintln!(
-        "{} lines, {} with links, {} of {} states called, {} pauses",
+        "{} lines, {} of them notes of the documents, {} with links, {} of {} states called, {} pauses",
         lines.len(),
+        of_documents,
         with_links,
         called.count_ones(),
         expected::machine::STATES,
