@@ -98,6 +98,7 @@ module _ (member : ℕ → Bool) where
           each_answered = ap length told ∙ answers-length calls new;
           each_shown = ap suc (later_length calls new) ∙ omega arith;
           shown = subst (λ cs. Looks saw before (new ∷ later new cs) w) whole so.looked;
+          each_led = λ j le. seen_at j calls new new le;
           always = λ j le.
               subst (λ l. Moment member (take j calls) (take j l) (held (get_or (new ∷ later new calls) j new))) (sym told)
               (subst (λ x. Moment member (take j calls) (take j (answers member new calls)) (held x)) (sym (seen_at j calls new new le)) (always calls j le));

@@ -105,10 +105,12 @@ Looks {W} saw w (m ∷ ms) w' = (v : W) × saw w m v × Looks saw v ms w'
 
 -- calls made on a new reader, and the answers that they got. A watcher was shown the reader before the first call and after each,
 -- and at each of these moments it held what is claimed; so it does at the end
-pub record Watched {W : Type 0} (saw : W → Model → W → Type 0) (member : ℕ → Bool) (calls : List Call) (got : List Answer) (before after : W) (last : Model) : Type 0 where
+pub record Watched {W : Type 0} (saw : W → Model → W → Type 0) (member : ℕ → Bool) (calls : List Call) (got : List Answer) (first then : W) (last : Model) : Type 0 where
   pub moments : List Model
   pub each_answered : length got ≡ length calls
   pub each_shown : length moments ≡ length calls + 1
-  pub shown : Looks saw before moments after
+  pub shown : Looks saw first moments then
+  -- the reader of each moment is the one to which the calls so far lead
+  pub each_led : (k : ℕ) → k ≤ length calls → slice_index_or moments k new ≡ after member new (take k calls)
   pub always : Always member calls got (λ k. held (slice_index_or moments k new))
   pub last_moment : slice_index_or moments (length calls) new ≡ last

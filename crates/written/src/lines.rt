@@ -1,12 +1,14 @@
 // What a line of the listing says.
-ghost use Rattle.std.specs.Prelude.{◌≡◌, ◌+◌, ◌≤◌, ◌++◌, length, Some, [], ◌∷◌, decimal};
+ghost use Rattle.std.specs.Prelude.{◌≡◌, ◌+◌, ◌≤◌, ◌++◌, length, Some, [], ◌∷◌, decimal, string_bytes, OnOk};
 ghost use Rattle.written.specs.Fronts.{placed};
-ghost use Rattle.written.specs.Listing.{edge_shown, name_shown, event_shown, newline};
+ghost use Rattle.written.specs.Listing.{edge_shown, name_shown, event_shown, event_lines, newline};
 
 use crate::fronts::put;
 use itoa::Buffer;
 use machine::{Event, EventKind, Name};
+use std::alloc::AllocError;
 use std::fmt;
+use std::fmt::Write;
 use text::SpanKind;
 
 // An event as the listing has it.
@@ -25,6 +27,17 @@ impl fmt::Display for Listed {
         let index = point.index;
         write!(f, "{edge} {name} {line}:{column} {index}")
     }
+}
+
+// Writes a line for each event behind a text.
+pub fn write_lines(text: &mut String, events: &[Event]) -> Result<(), AllocError>
+    ensures { OnOk result (string_bytes text.new ≡ string_bytes text.old ++ event_lines events.now) }
+{
+    for event in events {
+        let line = Listed(*event);
+        writeln!(text, "{line}")?;
+    }
+    Ok(())
 }
 
 // Writes the line of an event at `at`, and answers the place after it.
