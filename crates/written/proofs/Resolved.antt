@@ -25,7 +25,7 @@ use Rattle.calls.specs.Moments.{AlwaysTrue}
 use Rattle.calls.specs.Steps.{held, is_resolved, most_events}
 use Rattle.calls.specs.Links.{as_named}
 use Rattle.calls.specs.EventLists.{span, is_link, is_web_address, is_mail_address, open_then, closes, nests, only_links_hold, closed_by, spans_from, spans, with_name, in_order, Placed}
-use Rattle.rules.specs.Web.{is_web}
+use Rattle.rules.specs.Web.{is_web, links}
 use Rattle.written.specs.Named.{NamedByTheRules}
 use Rattle.written.specs.Spans.{address, addresses_of, written_spans, IsResolved}
 use Rattle.written.proofs.Sizes.{Long, links-long, mail-long}
@@ -197,10 +197,17 @@ mail-named : (xs : List Segment) → map as_named (filter (λ y. not (is_web y.k
 mail-named [] = refl
 mail-named (x ∷ xs) = mail_kept x.name x.from x.to (with_name is_mail_address xs) (addresses_of xs) (mail-named xs)
 
+named-back : (xs : List Span) → addresses_of (map as_named xs) ≡ xs
+named-back [] = refl
+named-back (x ∷ xs) = ap (λ l. x ∷ l) (named-back xs)
+
 pub named : (note : List ℕ) (es : List Event) (r : IsResolved note es) → NamedByTheRules r.member note r.links (written_spans es)
 named note es r = record {
   in_turn = resolved-in_turn note es r;
-  web = web-named (spans es) ∙ r.read.web;
+  web =
+      sym (named-back (filter (λ y. is_web y.kind) (written_spans es)))
+      ∙ ap addresses_of (web-named (spans es) ∙ r.read.web)
+      ∙ named-back (links r.member note);
   mail = mail-named (spans es) ∙ r.resolved.mail;
 }
 

@@ -12,5 +12,5 @@ use Rattle.calls.specs.Links.{as_named}
 -- are the addresses that the mail rules name in data outside links
 pub record NamedByTheRules (member : ℕ → Bool) (note : List ℕ) (ls : List MarkedRun) (xs : List Span) : Type 0 where
   pub in_turn : IsInTurn 0 (length note) xs
-  pub web : map as_named (filter (λ x. is_web x.kind) xs) ≡ map as_named (links member note)
+  pub web : filter (λ x. is_web x.kind) xs ≡ links member note
   pub mail : map as_named (filter (λ x. not (is_web x.kind)) xs) ≡ mail_outside note (marked_spans member note ls) (data_of member note)
