@@ -1,6 +1,6 @@
 -- Where a note lies does not matter to what calls do, answer and tell.
 -- Assumes nothing.
-use Rattle.std.proofs.Common.{◌≡◌, ℕ, suc, Bool, List, [], ◌∷◌, map, length, refl, ap, ◌∙◌}
+use Rattle.std.proofs.Common.{◌≡◌, ℕ, zero, suc, Bool, List, [], ◌∷◌, map, length, take, refl, ap, ◌∙◌}
 use Rattle.calls.specs.declared.scripts.Call.{Call}
 use Rattle.calls.specs.declared.scripts.Call.TheVariants as call
 use Rattle.calls.specs.Calls.{Model}
@@ -23,7 +23,7 @@ module _ (member : ℕ → Bool) where
 
   pub answers_bare : (m : Model) (cs : List Call) → answers member m (map bare cs) ≡ answers member m cs
   answers_bare m [] = refl
-  answers_bare m (c ∷ cs) = ap (λ (o : Model × Answer). o.1 ∷ answers member o.0 (map bare cs)) (step_bare m c) ∙ ap (λ as. (step member m c).1 ∷ as) (answers_bare (step member m c).0 cs)
+  answers_bare m (c ∷ cs) = ap (λ (o : Model × Answer). o.1 ∷ answers member o.0 (map bare cs)) (step_bare m c) ∙ ap (λ got. (step member m c).1 ∷ got) (answers_bare (step member m c).0 cs)
 
 telling_bare : (t : Told) (c : Call) (a : Answer) → telling t (bare c) a ≡ telling t c a
 telling_bare t (call.Load note) a = refl
@@ -41,3 +41,8 @@ told_bare t (c ∷ cs) (a ∷ got) = ap (λ s. told s (map bare cs) got) (tellin
 pub length_bare : (cs : List Call) → length (map bare cs) ≡ length cs
 length_bare [] = refl
 length_bare (c ∷ cs) = ap suc (length_bare cs)
+
+pub take_bare : (k : ℕ) (cs : List Call) → map bare (take k cs) ≡ take k (map bare cs)
+take_bare zero cs = refl
+take_bare (suc k) [] = refl
+take_bare (suc k) (c ∷ cs) = ap (λ l. bare c ∷ l) (take_bare k cs)

@@ -1,2 +1,3 @@
 pub mod Bare
 pub mod Listed
+pub mod Played
