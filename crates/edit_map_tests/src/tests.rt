@@ -1,5 +1,7 @@
+use Step::*;
 use edit_map::{EditMap, HIGHEST, MOST_PLACES};
 use std::alloc::AllocError;
+use std::fmt::Debug;
 use std::process::Abort;
 use std::test::*;
 use text::Fault;
@@ -12,8 +14,27 @@ struct Trial {
     out: [u8; 16],
 }
 
+// A call of the map with what it must answer, or what must be seen of the map then.
+#[derive(Drop)]
+enum Step<'a> {
+    // A place, a count and the elements.
+    Add(usize, usize, &'a [u8], Result<(), Fault>),
+    AddBefore(usize, usize, &'a [u8], Result<(), Fault>),
+    // First how many elements of the store there are.
+    AddIn(usize, usize, usize, &'a [u8], Result<(), Fault>),
+    // A list.
+    Make(&'a [u8], Result<usize, Fault>),
+    // First how many elements of the store and of the buffer there are.
+    MakeIn(usize, usize, &'a [u8], Result<usize, Fault>),
+    Clear,
+    // What the store holds, and the whole buffer.
+    Holds(&'a [u8], &'a [u8]),
+    // How many places, and how many elements are kept.
+    Sizes(usize, usize),
+}
+
 impl Trial {
-    fn new(rt: &HostRuntime) -> Result<Trial, AllocError> {
+    fn new(rt: &impl AllocGlobal) -> Result<Trial, AllocError> {
         let map = EditMap::new(rt.alloc())?;
         Ok(Trial {
             map,
@@ -30,7 +51,6 @@ impl Trial {
         self.map.add_before(&mut self.store, place, count, elements)
     }
 
-    // With the first elements of the store alone.
     fn add_in(
         &mut self,
         room: usize,
@@ -48,7 +68,6 @@ impl Trial {
         self.map.consume(&self.store, list, &mut self.out)
     }
 
-    // With the first elements of the store and of the buffer alone.
     fn make_in(&mut self, room: usize, size: usize, list: &[u8]) -> Result<usize, Fault> {
         let store = self.store;
         let room = room.min(8);
@@ -57,107 +76,137 @@ impl Trial {
             .consume(&store[0..room], list, &mut self.out[0..size])
     }
 
-    // What the store holds, and the whole buffer.
-    fn holds(&self, rt: &impl Abort, store: &[u8], out: &[u8]) -> Result<(), Fail> {
-        assert_eq!(rt; self.store.as_slice(), store);
-        assert_eq!(rt; self.out.as_slice(), out);
-        Ok(())
-    }
-
-    // How many places, and how many elements are kept.
     fn sizes(&self) -> (usize, usize) {
         (self.map.len(), self.map.kept())
     }
+
+    fn check_step(&mut self, rt: &impl Abort, at: usize, step: &Step) {
+        match *step {
+            Add(place, count, elements, answer) => {
+                compare(rt, at, &self.add(place, count, elements), &answer)
+            }
+            AddBefore(place, count, elements, answer) => {
+                compare(rt, at, &self.add_before(place, count, elements), &answer)
+            }
+            AddIn(room, place, count, elements, answer) => {
+                compare(rt, at, &self.add_in(room, place, count, elements), &answer)
+            }
+            Make(list, answer) => compare(rt, at, &self.make(list), &answer),
+            MakeIn(room, size, list, answer) => {
+                compare(rt, at, &self.make_in(room, size, list), &answer)
+            }
+            Clear => self.map.clear(),
+            Holds(store, out) => {
+                compare(rt, at, &self.store.as_slice(), &store);
+                compare(rt, at, &self.out.as_slice(), &out);
+            }
+            Sizes(places, kept) => {
+                compare(rt, at, &self.sizes(), &(places, kept));
+                compare(rt, at, &self.map.is_empty(), &(places == 0));
+            }
+        }
+    }
+
+    fn check_steps(&mut self, rt: &impl Abort, steps: &[Step]) {
+        for (at, step) in steps.iter().enumerate() {
+            self.check_step(rt, at, step);
+        }
+    }
+}
+
+// Each `assert_eq!` takes the prover seconds, and a call of this next to nothing.
+fn compare<T: PartialEq + Debug>(rt: &impl Abort, at: usize, found: &T, wanted: &T) {
+    assert_eq!(rt; *found, *wanted, "at step {at}");
+}
+
+fn check_steps(rt: &(impl Abort + AllocGlobal), steps: &[Step]) -> Result<(), Fail> {
+    Trial::new(rt)?.check_steps(rt, steps);
+    Ok(())
 }
 
 #[test]
 fn no_edits(rt: HostRuntime) -> Result<(), Fail> {
-    let mut trial = Trial::new(&rt)?;
-    assert!(rt; trial.map.is_empty());
-    assert_eq!(rt; trial.make(b"abc"), Ok(3));
-    trial.holds(&rt, b"        ", b"abc.............")?;
-    assert_eq!(rt; trial.make(b""), Ok(0));
-    assert_eq!(rt; trial.make(b"0123456789abcdef"), Ok(16));
-    trial.holds(&rt, b"        ", b"0123456789abcdef")?;
-    assert_eq!(rt;
-        trial.make(b"0123456789abcdefg"),
-        Err(Fault::BufferTooShort(17))
-    );
-    Ok(())
+    check_steps(
+        &rt,
+        &[
+            Sizes(0, 0),
+            Make(b"abc", Ok(3)),
+            Holds(b"        ", b"abc............."),
+            Make(b"", Ok(0)),
+            Make(b"0123456789abcdef", Ok(16)),
+            Holds(b"        ", b"0123456789abcdef"),
+            Make(b"0123456789abcdefg", Err(Fault::BufferTooShort(17))),
+        ],
+    )
 }
 
 #[test]
 fn first_and_last_place(rt: HostRuntime) -> Result<(), Fail> {
-    let mut trial = Trial::new(&rt)?;
-    assert_eq!(rt; trial.add(5, 0, b"!"), Ok(()));
-    assert_eq!(rt; trial.add(0, 1, b"<>"), Ok(()));
-    assert_eq!(rt; trial.add(3, 1, b""), Ok(()));
-    assert_eq!(rt; trial.sizes(), (3, 3));
-    assert_eq!(rt; trial.make(b"abcde"), Ok(6));
-    trial.holds(&rt, b"<>!     ", b"<>bce!..........")?;
-    assert_eq!(rt; trial.add(0, 5, b""), Ok(()));
-    assert_eq!(rt; trial.make(b"abcde"), Ok(0), "the whole list is removed");
-    assert_eq!(rt; trial.make(b"abcde"), Ok(5), "no edit is left");
-    Ok(())
+    check_steps(
+        &rt,
+        &[
+            Add(5, 0, b"!", Ok(())),
+            Add(0, 1, b"<>", Ok(())),
+            Add(3, 1, b"", Ok(())),
+            Sizes(3, 3),
+            Make(b"abcde", Ok(6)),
+            Holds(b"<>!     ", b"<>bce!.........."),
+            // The whole list is removed, and then no edit is left.
+            Add(0, 5, b"", Ok(())),
+            Make(b"abcde", Ok(0)),
+            Make(b"abcde", Ok(5)),
+        ],
+    )
 }
 
 #[test]
 fn an_edit_past_the_end(rt: HostRuntime) -> Result<(), Fail> {
-    let mut trial = Trial::new(&rt)?;
-    assert_eq!(rt; trial.add(0, 1, b"x"), Ok(()));
-    assert_eq!(rt; trial.add(4, 2, b"y"), Ok(()));
-    assert_eq!(rt; trial.make(b"abcde"), Err(Fault::EditOutOfRange(1)));
-    assert_eq!(rt; trial.make(b""), Err(Fault::EditOutOfRange(0)));
-    trial.holds(&rt, b"xy      ", b"................")?;
-    assert_eq!(rt;
-        trial.make(b"abcdef"),
-        Ok(5),
-        "place plus count is the length"
-    );
-    assert_eq!(rt; trial.add(6, 0, b"z"), Ok(()));
-    assert_eq!(rt;
-        trial.make(b"abcde"),
-        Err(Fault::EditOutOfRange(0)),
-        "one past the place where elements are appended"
-    );
-    Ok(())
+    check_steps(
+        &rt,
+        &[
+            Add(0, 1, b"x", Ok(())),
+            Add(4, 2, b"y", Ok(())),
+            Make(b"abcde", Err(Fault::EditOutOfRange(1))),
+            Make(b"", Err(Fault::EditOutOfRange(0))),
+            Holds(b"xy      ", b"................"),
+            // The place plus the count is the length.
+            Make(b"abcdef", Ok(5)),
+            // One past the place where elements are appended.
+            Add(6, 0, b"z", Ok(())),
+            Make(b"abcde", Err(Fault::EditOutOfRange(0))),
+        ],
+    )
 }
 
 #[test]
 fn highest_place_and_count(rt: HostRuntime) -> Result<(), Fail> {
-    let mut trial = Trial::new(&rt)?;
-    assert_eq!(rt; trial.add(HIGHEST, HIGHEST, b""), Ok(()));
-    assert_eq!(rt;
-        trial.add(HIGHEST + 1, 0, b"x"),
-        Err(Fault::EditOutOfRange(0))
-    );
-    assert_eq!(rt;
-        trial.add(HIGHEST + 1, 0, b""),
-        Err(Fault::EditOutOfRange(0)),
-        "though it has no effect"
-    );
-    assert_eq!(rt;
-        trial.add_before(0, HIGHEST + 1, b"x"),
-        Err(Fault::EditOutOfRange(0))
-    );
-    assert_eq!(rt; trial.sizes(), (1, 0));
-    Ok(())
+    check_steps(
+        &rt,
+        &[
+            Add(HIGHEST, HIGHEST, b"", Ok(())),
+            Add(HIGHEST + 1, 0, b"x", Err(Fault::EditOutOfRange(0))),
+            // Refused though it would have no effect.
+            Add(HIGHEST + 1, 0, b"", Err(Fault::EditOutOfRange(0))),
+            AddBefore(0, HIGHEST + 1, b"x", Err(Fault::EditOutOfRange(0))),
+            Sizes(1, 0),
+        ],
+    )
 }
 
 #[test]
 fn counts_are_summed(rt: HostRuntime) -> Result<(), Fail> {
-    let mut trial = Trial::new(&rt)?;
-    assert_eq!(rt; trial.add(7, 4000, b""), Ok(()));
-    assert_eq!(rt;
-        trial.add_before(7, 97, b"123456789"),
-        Err(Fault::EditOutOfRange(0)),
-        "13 is tested before 15"
-    );
-    assert_eq!(rt; trial.add(7, 96, b""), Ok(()));
-    assert_eq!(rt; trial.add(7, 1, b""), Err(Fault::EditOutOfRange(0)));
-    assert_eq!(rt; trial.add(7, 0, b"x"), Ok(()));
-    assert_eq!(rt; trial.sizes(), (1, 1));
-    Ok(())
+    check_steps(
+        &rt,
+        &[
+            Add(7, 4000, b"", Ok(())),
+            // 13 is tested before 15.
+            AddBefore(7, 97, b"123456789", Err(Fault::EditOutOfRange(0))),
+            Add(7, 96, b"", Ok(())),
+            Add(7, 1, b"", Err(Fault::EditOutOfRange(0))),
+            Add(7, 0, b"x", Ok(())),
+            Sizes(1, 1),
+        ],
+    )
 }
 
 #[test]
@@ -165,135 +214,147 @@ fn all_places(rt: HostRuntime) -> Result<(), Fail> {
     let mut trial = Trial::new(&rt)?;
     // From the last place to the first, so that each is put before all others.
     for i in (0..MOST_PLACES).rev() {
-        assert_eq!(rt; trial.add(2 * i, 1, b""), Ok(()));
+        trial.check_step(&rt, i, &Add(2 * i, 1, b"", Ok(())));
     }
-    assert_eq!(rt; trial.add(1, 1, b""), Err(Fault::NoRoomForEdit));
-    assert_eq!(rt;
-        trial.add_before(2 * MOST_PLACES, 0, b"x"),
-        Err(Fault::NoRoomForEdit)
+    trial.check_steps(
+        &rt,
+        &[
+            Add(1, 1, b"", Err(Fault::NoRoomForEdit)),
+            AddBefore(2 * MOST_PLACES, 0, b"x", Err(Fault::NoRoomForEdit)),
+            // An add with no effect takes no place, and one at a place that has an edit no new place.
+            Add(1, 0, b"", Ok(())),
+            Add(2, 0, b"x", Ok(())),
+            Sizes(MOST_PLACES, 1),
+        ],
     );
-    assert_eq!(rt; trial.add(1, 0, b""), Ok(()), "it takes no place");
-    assert_eq!(rt; trial.add(2, 0, b"x"), Ok(()), "it takes no new place");
-    assert_eq!(rt; trial.sizes(), (MOST_PLACES, 1));
     every_second(&rt, &mut trial)?;
-    assert_eq!(rt; trial.add(1, 1, b""), Ok(()), "all places are free again");
+    // All places are free again.
+    trial.check_step(&rt, 0, &Add(1, 1, b"", Ok(())));
     Ok(())
 }
 
 // Of 2,048 elements every second is removed, the first one too, and one is put in before element 3.
-fn every_second(rt: &impl Abort, trial: &mut Trial) -> Result<(), Fail> {
-    let list = [b'a'; 2048];
-    let mut out = [b'.'; 1026];
-    assert_eq!(rt; trial.map.consume(&trial.store, &list, &mut out), Ok(1025));
-    assert_eq!(rt; &out[0..3], b"axa".as_slice());
-    assert_eq!(rt; &out[1023..1026], b"aa.".as_slice());
+fn every_second(rt: &(impl Abort + AllocGlobal), trial: &mut Trial) -> Result<(), Fail> {
+    let list = vec![in rt.alloc(); b'a'; 2048]?;
+    let mut out = vec![in rt.alloc(); b'.'; 1026]?;
+    compare(
+        rt,
+        0,
+        &trial.map.consume(&trial.store, &list, &mut out),
+        &Ok(1025),
+    );
+    assert!(rt; out.starts_with(b"axa"));
+    assert!(rt; out.ends_with(b"aa."));
     Ok(())
 }
 
 #[test]
 fn a_full_store(rt: HostRuntime) -> Result<(), Fail> {
-    let mut trial = Trial::new(&rt)?;
-    assert_eq!(rt; trial.add(2, 0, b"1234567"), Ok(()));
-    assert_eq!(rt; trial.add(1, 0, b"ab"), Err(Fault::NoRoomForEdit));
-    assert_eq!(rt; trial.add_before(2, 0, b"ab"), Err(Fault::NoRoomForEdit));
-    trial.holds(&rt, b"1234567 ", b"................")?;
-    assert_eq!(rt; trial.add(1, 0, b"a"), Ok(()), "the store is just full");
-    trial.holds(&rt, b"a1234567", b"................")?;
-    assert_eq!(rt; trial.add(9, 1, b""), Ok(()));
-    assert_eq!(rt;
-        trial.add_in(7, 8, 1, b""),
-        Err(Fault::NoRoomForEdit),
-        "a store without the kept elements"
-    );
-    assert_eq!(rt;
-        trial.add_in(7, 8, 0, b""),
-        Ok(()),
-        "no store is asked for where there is no effect"
-    );
-    assert_eq!(rt; trial.sizes(), (3, 8));
-    Ok(())
+    check_steps(
+        &rt,
+        &[
+            Add(2, 0, b"1234567", Ok(())),
+            Add(1, 0, b"ab", Err(Fault::NoRoomForEdit)),
+            AddBefore(2, 0, b"ab", Err(Fault::NoRoomForEdit)),
+            Holds(b"1234567 ", b"................"),
+            // The store is just full.
+            Add(1, 0, b"a", Ok(())),
+            Holds(b"a1234567", b"................"),
+            Add(9, 1, b"", Ok(())),
+            // A store without the kept elements is refused, but none is asked for where there is no effect.
+            AddIn(7, 8, 1, b"", Err(Fault::NoRoomForEdit)),
+            AddIn(7, 8, 0, b"", Ok(())),
+            Sizes(3, 8),
+        ],
+    )
 }
 
 #[test]
 fn a_store_or_a_buffer_that_is_short(rt: HostRuntime) -> Result<(), Fail> {
-    let mut trial = Trial::new(&rt)?;
-    assert_eq!(rt; trial.add(1, 1, b"xyz"), Ok(()));
-    assert_eq!(rt;
-        trial.make_in(2, 6, b"abcde"),
-        Err(Fault::NoRoomForEdit),
-        "15 is tested before 16"
-    );
-    assert_eq!(rt;
-        trial.make_in(3, 6, b"abcde"),
-        Err(Fault::BufferTooShort(7))
-    );
-    trial.holds(&rt, b"xyz     ", b"................")?;
-    assert_eq!(rt; trial.sizes(), (1, 3));
-    assert_eq!(rt; trial.make_in(3, 7, b"abcde"), Ok(7));
-    trial.holds(&rt, b"xyz     ", b"axyzcde.........")?;
-    assert_eq!(rt; trial.sizes(), (0, 0));
-    Ok(())
+    check_steps(
+        &rt,
+        &[
+            Add(1, 1, b"xyz", Ok(())),
+            // 15 is tested before 16.
+            MakeIn(2, 6, b"abcde", Err(Fault::NoRoomForEdit)),
+            MakeIn(3, 6, b"abcde", Err(Fault::BufferTooShort(7))),
+            Holds(b"xyz     ", b"................"),
+            Sizes(1, 3),
+            MakeIn(3, 7, b"abcde", Ok(7)),
+            Holds(b"xyz     ", b"axyzcde........."),
+            Sizes(0, 0),
+        ],
+    )
 }
 
 #[test]
 fn runs_that_touch(rt: HostRuntime) -> Result<(), Fail> {
-    let mut trial = Trial::new(&rt)?;
-    assert_eq!(rt; trial.add(5, 1, b"y"), Ok(()));
-    assert_eq!(rt; trial.add(2, 3, b"x"), Ok(()));
-    assert_eq!(rt;
-        trial.make(b"abcdefghi"),
-        Ok(7),
-        "5 is the first element behind the run"
-    );
-    trial.holds(&rt, b"xy      ", b"abxyghi.........")
+    check_steps(
+        &rt,
+        &[
+            Add(5, 1, b"y", Ok(())),
+            Add(2, 3, b"x", Ok(())),
+            // 5 is the first element behind the run.
+            Make(b"abcdefghi", Ok(7)),
+            Holds(b"xy      ", b"abxyghi........."),
+        ],
+    )
 }
 
 #[test]
 fn runs_that_overlap(rt: HostRuntime) -> Result<(), Fail> {
-    let mut trial = Trial::new(&rt)?;
-    assert_eq!(rt; trial.add(2, 3, b""), Ok(()));
-    assert_eq!(rt; trial.add(4, 0, b"y"), Ok(()));
-    assert_eq!(rt; trial.make(b"abcdefghi"), Err(Fault::EditInsideRemoval(1)));
-    assert_eq!(rt; trial.add(9, 1, b""), Ok(()));
-    assert_eq!(rt;
-        trial.make(b"abcdefghi"),
-        Err(Fault::EditOutOfRange(2)),
-        "13 is tested over all edits first"
-    );
-    assert_eq!(rt; trial.sizes(), (3, 1));
-    trial.map.clear();
-    assert_eq!(rt; trial.make(b"abcdefghi"), Ok(9));
-    Ok(())
+    check_steps(
+        &rt,
+        &[
+            Add(2, 3, b"", Ok(())),
+            Add(4, 0, b"y", Ok(())),
+            Make(b"abcdefghi", Err(Fault::EditInsideRemoval(1))),
+            // 13 is tested over all edits first.
+            Add(9, 1, b"", Ok(())),
+            Make(b"abcdefghi", Err(Fault::EditOutOfRange(2))),
+            Sizes(3, 1),
+            Clear,
+            Make(b"abcdefghi", Ok(9)),
+        ],
+    )
 }
 
 #[test]
 fn two_adds_at_a_place(rt: HostRuntime) -> Result<(), Fail> {
-    let mut trial = Trial::new(&rt)?;
-    assert_eq!(rt; trial.add(3, 0, b"|"), Ok(()));
-    assert_eq!(rt; trial.add(1, 1, b"12"), Ok(()));
-    assert_eq!(rt; trial.add(1, 1, b"34"), Ok(()));
-    assert_eq!(rt; trial.make(b"abcd"), Ok(7));
-    trial.holds(&rt, b"1234|   ", b"a1234|d.........")?;
-    assert_eq!(rt; trial.add(3, 0, b"|"), Ok(()));
-    assert_eq!(rt; trial.add_before(1, 1, b"12"), Ok(()));
-    assert_eq!(rt; trial.add_before(1, 1, b"34"), Ok(()));
-    assert_eq!(rt; trial.make(b"abcd"), Ok(7));
-    trial.holds(&rt, b"3412|   ", b"a3412|d.........")
+    check_steps(
+        &rt,
+        &[
+            Add(3, 0, b"|", Ok(())),
+            Add(1, 1, b"12", Ok(())),
+            Add(1, 1, b"34", Ok(())),
+            Make(b"abcd", Ok(7)),
+            Holds(b"1234|   ", b"a1234|d........."),
+            Add(3, 0, b"|", Ok(())),
+            AddBefore(1, 1, b"12", Ok(())),
+            AddBefore(1, 1, b"34", Ok(())),
+            Make(b"abcd", Ok(7)),
+            Holds(b"3412|   ", b"a3412|d........."),
+        ],
+    )
 }
 
 #[test]
 fn an_add_and_one_before_it(rt: HostRuntime) -> Result<(), Fail> {
-    let mut trial = Trial::new(&rt)?;
-    assert_eq!(rt; trial.add_before(1, 1, b"12"), Ok(()));
-    assert_eq!(rt; trial.add(1, 1, b"34"), Ok(()));
-    assert_eq!(rt; trial.add(0, 0, b"|"), Ok(()));
-    assert_eq!(rt; trial.make(b"abcd"), Ok(7));
-    trial.holds(&rt, b"|1234   ", b"|a1234d.........")?;
-    assert_eq!(rt; trial.add(1, 1, b"12"), Ok(()));
-    assert_eq!(rt; trial.add_before(1, 1, b"34"), Ok(()));
-    assert_eq!(rt; trial.add_before(0, 0, b"|"), Ok(()));
-    assert_eq!(rt; trial.make(b"abcd"), Ok(7));
-    trial.holds(&rt, b"|3412   ", b"|a3412d.........")
+    check_steps(
+        &rt,
+        &[
+            AddBefore(1, 1, b"12", Ok(())),
+            Add(1, 1, b"34", Ok(())),
+            Add(0, 0, b"|", Ok(())),
+            Make(b"abcd", Ok(7)),
+            Holds(b"|1234   ", b"|a1234d........."),
+            Add(1, 1, b"12", Ok(())),
+            AddBefore(1, 1, b"34", Ok(())),
+            AddBefore(0, 0, b"|", Ok(())),
+            Make(b"abcd", Ok(7)),
+            Holds(b"|3412   ", b"|a3412d........."),
+        ],
+    )
 }
 
 #[test]
@@ -301,13 +362,14 @@ fn elements_other_than_bytes(rt: HostRuntime) -> Result<(), Fail> {
     let mut map = EditMap::new(rt.alloc())?;
     let mut store = [(0u32, 'a'); 4];
     let mut out = [(0u32, 'a'); 4];
-    assert_eq!(rt; map.add(&mut store, 1, 1, &[(7, 'x'), (8, 'y')]), Ok(()));
-    assert_eq!(rt;
-        map.consume(&store, &[(1, 'b'), (2, 'c'), (3, 'd')], &mut out),
-        Ok(4)
+    compare(
+        &rt,
+        0,
+        &map.add(&mut store, 1, 1, &[(7, 'x'), (8, 'y')]),
+        &Ok(()),
     );
-    assert_eq!(rt; out[1], (7, 'x'));
-    assert_eq!(rt; out[2], (8, 'y'));
-    assert_eq!(rt; out[3], (3, 'd'));
+    let list = [(1, 'b'), (2, 'c'), (3, 'd')];
+    compare(&rt, 1, &map.consume(&store, &list, &mut out), &Ok(4));
+    compare(&rt, 2, &out, &[(1, 'b'), (7, 'x'), (8, 'y'), (3, 'd')]);
     Ok(())
 }
