@@ -5,8 +5,12 @@ use characters::white_space::is_white_space;
 use characters::widths::char_width;
 use std::process::Abort;
 
+fn reads_at(rt: &impl Abort, bytes: &[u8], index: usize, c: Option<char>) {
+    assert_eq!(rt; char_at(bytes, index), c, "at {index} in {bytes:?}");
+}
+
 fn reads(rt: &impl Abort, bytes: &[u8], c: char) {
-    assert_eq!(rt; char_at(bytes, 0), Some(c));
+    reads_at(rt, bytes, 0, Some(c));
 }
 
 fn reads_nothing(rt: &impl Abort, bytes: &[u8]) {
@@ -75,20 +79,24 @@ fn truncated_and_broken_sequences(rt: HostRuntime) {
 #[test]
 fn a_place_inside_at_and_past_the_end(rt: HostRuntime) {
     let bytes = [0x61, 0xE2, 0x80, 0x94];
-    assert_eq!(rt; char_at(&bytes, 1), Some('\u{2014}'));
-    assert_eq!(rt; char_at(&bytes, 2), Some('\u{FFFD}'));
-    assert_eq!(rt; char_at(&bytes, 4), None);
-    assert_eq!(rt; char_at(&bytes, usize::MAX), None);
+    reads_at(&rt, &bytes, 1, Some('\u{2014}'));
+    reads_at(&rt, &bytes, 2, Some('\u{FFFD}'));
+    reads_at(&rt, &bytes, 4, None);
+    reads_at(&rt, &bytes, usize::MAX, None);
 }
 
 #[test]
 fn characters_in_turn(rt: HostRuntime) {
     let mut characters = char_indices(&[0x61, 0xE2, 0x80, 0x94, 0x80, 0xC3, 0xA9]);
-    assert_eq!(rt; characters.next(), Some((0, 'a')));
-    assert_eq!(rt; characters.next(), Some((1, '\u{2014}')));
-    assert_eq!(rt; characters.next(), Some((4, '\u{FFFD}')));
-    assert_eq!(rt; characters.next(), Some((5, '\u{E9}')));
-    assert_eq!(rt; characters.next(), None);
+    for expected in [
+        Some((0, 'a')),
+        Some((1, '\u{2014}')),
+        Some((4, '\u{FFFD}')),
+        Some((5, '\u{E9}')),
+        None,
+    ] {
+        assert_eq!(rt; characters.next(), expected);
+    }
     assert_eq!(rt; char_indices(&[]).next(), None);
 }
 
@@ -115,13 +123,17 @@ fn white_space_ends(rt: HostRuntime) {
     }
 }
 
+fn has_width(rt: &impl Abort, bytes: &[u8], index: usize, width: usize) {
+    assert_eq!(rt; char_width(bytes, index), width, "at {index} in {bytes:?}");
+}
+
 #[test]
 fn widths(rt: HostRuntime) {
-    assert_eq!(rt; char_width(b"a", 0), 1);
-    assert_eq!(rt; char_width(&[0xC3, 0xA9], 0), 2);
-    assert_eq!(rt; char_width(&[0xE2, 0x80, 0x94], 0), 3);
-    assert_eq!(rt; char_width(&[0xEF, 0xBF, 0xBD], 0), 3);
-    assert_eq!(rt; char_width(&[0xF0, 0x9F, 0x91, 0x8D], 0), 4);
-    assert_eq!(rt; char_width(&[0xE2, 0x80], 0), 1);
-    assert_eq!(rt; char_width(b"a", 1), 0);
+    has_width(&rt, b"a", 0, 1);
+    has_width(&rt, &[0xC3, 0xA9], 0, 2);
+    has_width(&rt, &[0xE2, 0x80, 0x94], 0, 3);
+    has_width(&rt, &[0xEF, 0xBF, 0xBD], 0, 3);
+    has_width(&rt, &[0xF0, 0x9F, 0x91, 0x8D], 0, 4);
+    has_width(&rt, &[0xE2, 0x80], 0, 1);
+    has_width(&rt, b"a", 1, 0);
 }
