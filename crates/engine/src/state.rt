@@ -1,9 +1,9 @@
 // The states. Their names are those of the Rust functions; docs/ENGINE.md, sections 6 and 7, has a row for each arm.
 ghost use Rattle.std.specs.Prelude.{◌≡◌, true, if◌then◌else◌, vec_len};
 ghost use Rattle.punctuation.specs.Kinds.{kind_at};
-ghost use Rattle.machine.specs.declared.states.State.TheVariants.{Retry, Ok, Nok};
-ghost use Rattle.machine.specs.declared.states.StateName.TheVariants.{DomainInside, DomainAfter, PathInside, PathAfter};
-ghost use Rattle.machine.specs.Moves.{with_state, next, saw};
+ghost use Rattle.machine.specs.declared.states.State.TheVariants.{Next, Retry, Ok, Nok};
+ghost use Rattle.machine.specs.declared.states.StateName.TheVariants.{Before, Data, DomainInside, DomainAfter, PathInside, PathAfter, Trail};
+ghost use Rattle.machine.specs.Moves.{with_state, next, saw, sized, exited, checked, attempted};
 ghost use Rattle.machine.specs.States.{call, is_other, is_white_space, kind_here};
 ghost use Rattle.tokenizer.specs.Bounds.{Within, Callable};
 ghost use Rattle.tokenizer.specs.View.{machine};
@@ -15,6 +15,53 @@ use machine::{Name, State, StateName};
 use punctuation::kinds::{CharacterKind, classify};
 use punctuation::sets::PunctuationSet;
 use text::SpanKind;
+use tokenizer::Tokenizer;
+
+// ---- what several states do
+
+// Tries the address that `start` begins with: where it is none, its first byte is data.
+fn try_address(tokenizer: &mut Tokenizer, start: StateName)
+    requires { Callable (machine tokenizer.old) }
+    ensures { machine tokenizer.new ≡ with_state (Retry start) (attempted (Next Before) (Next Data) (machine tokenizer.old)) }
+{
+    tokenizer.attempt(State::Next(StateName::Before), State::Next(StateName::Data));
+    tokenizer.go(State::Retry(start));
+}
+
+// Looks whether a trail follows: `ok` is next where it does, and else `nok`.
+fn look_for_trail(tokenizer: &mut Tokenizer, ok: StateName, nok: StateName)
+    requires { Callable (machine tokenizer.old) }
+    ensures { machine tokenizer.new ≡ with_state (Retry Trail) (checked (Next ok) (Next nok) (machine tokenizer.old)) }
+{
+    tokenizer.check(State::Next(ok), State::Next(nok));
+    tokenizer.go(State::Retry(StateName::Trail));
+}
+
+// Ends the span of this name.
+fn leave(tokenizer: &mut Tokenizer, name: Name, state: State)
+    requires { Callable (machine tokenizer.old) }
+    ensures { machine tokenizer.new ≡ with_state state (exited name (machine tokenizer.old)) }
+{
+    tokenizer.exit(name);
+    tokenizer.go(state);
+}
+
+// Passes the byte shown, with another size.
+fn next_with_size(tokenizer: &mut Tokenizer, name: StateName, size: usize)
+    requires { Callable (machine tokenizer.old) }
+    ensures { machine tokenizer.new ≡ next name (sized size (machine tokenizer.old)) }
+{
+    tokenizer.next(name);
+    tokenizer.set_size(size);
+}
+
+// Gives up, and puts the size back.
+fn give_up(tokenizer: &mut Tokenizer)
+    ensures { machine tokenizer.new ≡ with_state Nok (sized 0 (machine tokenizer.old)) }
+{
+    tokenizer.set_size(0);
+    tokenizer.go(State::Nok);
+}
 
 impl<S: PunctuationSet> Engine<S> {
     // The kind of the character at the point.
@@ -90,18 +137,10 @@ impl<S: PunctuationSet> Engine<S> {
             // ---- text
             (StateName::Before, None) => self.tokenizer.go(State::Ok),
             (StateName::Before, Some(b'H' | b'h')) => {
-                self.tokenizer.attempt(
-                    State::Next(StateName::Before),
-                    State::Next(StateName::Data),
-                );
-                self.tokenizer.go(State::Retry(StateName::ProtocolStart));
+                try_address(&mut self.tokenizer, StateName::ProtocolStart);
             }
             (StateName::Before, Some(b'W' | b'w')) => {
-                self.tokenizer.attempt(
-                    State::Next(StateName::Before),
-                    State::Next(StateName::Data),
-                );
-                self.tokenizer.go(State::Retry(StateName::WwwStart));
+                try_address(&mut self.tokenizer, StateName::WwwStart);
             }
             (StateName::Before, Some(b'\n')) => {
                 self.tokenizer
@@ -109,13 +148,19 @@ impl<S: PunctuationSet> Engine<S> {
             }
             (StateName::Before, Some(_)) => self.tokenizer.go(State::Retry(StateName::Data)),
             (StateName::Line, _) => {
-                self.tokenizer.exit(Name::LineEnding);
-                self.tokenizer.go(State::Retry(StateName::Before));
+                leave(
+                    &mut self.tokenizer,
+                    Name::LineEnding,
+                    State::Retry(StateName::Before),
+                );
             }
             (StateName::Data, _) => self.tokenizer.enter_and_next(Name::Data, StateName::Inside),
             (StateName::Inside, None | Some(b'\n' | b'H' | b'h' | b'W' | b'w')) => {
-                self.tokenizer.exit(Name::Data);
-                self.tokenizer.go(State::Retry(StateName::Before));
+                leave(
+                    &mut self.tokenizer,
+                    Name::Data,
+                    State::Retry(StateName::Before),
+                );
             }
             (StateName::Inside, Some(_)) => self.tokenizer.next(StateName::Inside),
             // ---- protocols
@@ -143,8 +188,7 @@ impl<S: PunctuationSet> Engine<S> {
             }
             (StateName::ProtocolSlashesInside, Some(b'/')) if self.tokenizer.registers.size == 0 =>
                 {
-                    self.tokenizer.next(StateName::ProtocolSlashesInside);
-                    self.tokenizer.set_size(1);
+                    next_with_size(&mut self.tokenizer, StateName::ProtocolSlashesInside, 1);
                 }
             (StateName::ProtocolSlashesInside, Some(b'/')) => {
                 self.tokenizer.consume();
@@ -152,12 +196,14 @@ impl<S: PunctuationSet> Engine<S> {
                 self.tokenizer.go(State::Ok);
             }
             (StateName::ProtocolSlashesInside, _) => {
-                self.tokenizer.set_size(0);
-                self.tokenizer.go(State::Nok);
+                give_up(&mut self.tokenizer);
             }
             (StateName::ProtocolAfter, _) => {
-                self.tokenizer.exit(Name::Address(SpanKind::Protocol));
-                self.tokenizer.go(State::Ok);
+                leave(
+                    &mut self.tokenizer,
+                    Name::Address(SpanKind::Protocol),
+                    State::Ok,
+                );
             }
             // ---- www
             (StateName::WwwStart, Some(b'W' | b'w')) => {
@@ -170,32 +216,28 @@ impl<S: PunctuationSet> Engine<S> {
             }
             (StateName::WwwStart, _) => self.tokenizer.go(State::Nok),
             (StateName::WwwPrefixInside, Some(b'.')) if self.tokenizer.registers.size == 3 => {
-                self.tokenizer.next(StateName::WwwPrefixAfter);
-                self.tokenizer.set_size(0);
+                next_with_size(&mut self.tokenizer, StateName::WwwPrefixAfter, 0);
             }
             (StateName::WwwPrefixInside, Some(b'W' | b'w')) if self.tokenizer.registers.size < 3 =>
                 {
                     let size = self.tokenizer.registers.size + 1;
-                    self.tokenizer.next(StateName::WwwPrefixInside);
-                    self.tokenizer.set_size(size);
+                    next_with_size(&mut self.tokenizer, StateName::WwwPrefixInside, size);
                 }
             (StateName::WwwPrefixInside, _) => {
-                self.tokenizer.set_size(0);
-                self.tokenizer.go(State::Nok);
+                give_up(&mut self.tokenizer);
             }
             (StateName::WwwPrefixAfter, None) => self.tokenizer.go(State::Nok),
             (StateName::WwwPrefixAfter, Some(_)) => self.tokenizer.go(State::Ok),
             (StateName::WwwAfter, _) => {
-                self.tokenizer.exit(Name::Address(SpanKind::Www));
-                self.tokenizer.go(State::Ok);
+                leave(&mut self.tokenizer, Name::Address(SpanKind::Www), State::Ok);
             }
             // ---- domains
             (StateName::DomainInside, Some(b'.' | b'_')) => {
-                self.tokenizer.check(
-                    State::Next(StateName::DomainAfter),
-                    State::Next(StateName::DomainAtPunctuation),
+                look_for_trail(
+                    &mut self.tokenizer,
+                    StateName::DomainAfter,
+                    StateName::DomainAtPunctuation,
                 );
-                self.tokenizer.go(State::Retry(StateName::Trail));
             }
             (StateName::DomainInside, Some(b'-' | 0x80..=0xBF)) => self
                 .tokenizer
@@ -218,22 +260,21 @@ impl<S: PunctuationSet> Engine<S> {
                 .next(StateName::PathInside),
             (StateName::PathInside, Some(b'(')) => {
                 let size = self.tokenizer.registers.size + 1;
-                self.tokenizer.next(StateName::PathInside);
-                self.tokenizer.set_size(size);
+                next_with_size(&mut self.tokenizer, StateName::PathInside, size);
             }
             (StateName::PathInside, Some(b')')) if self.tokenizer.is_unclosed() => {
-                self.tokenizer.check(
-                    State::Next(StateName::PathAtPunctuation),
-                    State::Next(StateName::PathAtPunctuation),
+                look_for_trail(
+                    &mut self.tokenizer,
+                    StateName::PathAtPunctuation,
+                    StateName::PathAtPunctuation,
                 );
-                self.tokenizer.go(State::Retry(StateName::Trail));
             }
             (StateName::PathInside, Some(byte)) if may_end_path(byte) => {
-                self.tokenizer.check(
-                    State::Next(StateName::PathAfter),
-                    State::Next(StateName::PathAtPunctuation),
+                look_for_trail(
+                    &mut self.tokenizer,
+                    StateName::PathAfter,
+                    StateName::PathAtPunctuation,
                 );
-                self.tokenizer.go(State::Retry(StateName::Trail));
             }
             (StateName::PathInside, None) => self.tokenizer.go(State::Retry(StateName::PathAfter)),
             (StateName::PathInside, Some(_)) => self.path_by_kind(),
