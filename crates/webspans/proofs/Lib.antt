@@ -1,3 +1,2 @@
-pub mod Underway
 pub mod Reports
 pub mod Worked

@@ -6,9 +6,9 @@ use Rattle.text.specs.declared.refusals.Fault.{Fault}
 use Rattle.text.specs.declared.refusals.Fault.TheVariants.{NoteTooLong}
 use Rattle.text.specs.Shown.{refusal_shown}
 use Rattle.calls.specs.Calls.{Model}
-use Rattle.webspans.specs.declared.lines.Answered.{Answered}
-use Rattle.webspans.specs.declared.plans.Plan.{Plan}
-use Rattle.webspans.specs.Readings.{ReadThrough}
+use Rattle.readings.specs.declared.lines.Answered.{Answered}
+use Rattle.readings.specs.declared.plans.Plan.{Plan}
+use Rattle.readings.specs.Readings.{ReadThrough}
 use Rattle.webspans.specs.Report.{call_lines, steps_line, PrintedAs, Printed}
 use Rattle.written.specs.Listing.{newline, event_lines}
 

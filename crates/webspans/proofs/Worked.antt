@@ -8,8 +8,8 @@ use Rattle.machine.specs.declared.cursors.Until.{Until}
 use Rattle.machine.specs.declared.cursors.Until.TheVariants.{Mark, End}
 use Rattle.findings.specs.Pieces.{segment_events}
 use Rattle.calls.specs.Calls.{loaded}
-use Rattle.webspans.specs.declared.lines.Answered.{Answered}
-use Rattle.webspans.specs.Readings.{calls_from}
+use Rattle.readings.specs.declared.lines.Answered.{Answered}
+use Rattle.readings.specs.Readings.{calls_from}
 use Rattle.webspans.specs.Report.{call_lines, steps_line}
 use Rattle.written.specs.Listing.{event_lines}
 

@@ -1,4 +1,1 @@
-pub mod Lines
-pub mod Plans
-pub mod Readings
 pub mod Report

@@ -8,10 +8,10 @@ use Rattle.punctuation.specs.RangeLists.{house}
 use Rattle.rules.specs.Segments.{segments}
 use Rattle.findings.specs.Pieces.{segment_events}
 use Rattle.written.specs.Listing.{newline, event_lines}
-use Rattle.webspans.specs.declared.lines.Answered.{Answered}
-use Rattle.webspans.specs.declared.plans.Plan.{Plan}
-use Rattle.webspans.specs.Lines.{steps_shown, answered_shown}
-use Rattle.webspans.specs.Readings.{steps_made, AllCalls, TakesSteps}
+use Rattle.readings.specs.declared.lines.Answered.{Answered}
+use Rattle.readings.specs.declared.plans.Plan.{Plan}
+use Rattle.readings.specs.Lines.{steps_shown, answered_shown}
+use Rattle.readings.specs.Readings.{steps_made, AllCalls, TakesSteps}
 
 abbrev pub call_lines : List Answered → List ℕ
 call_lines [] = []

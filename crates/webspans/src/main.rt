@@ -2,12 +2,9 @@
 // that it took. With an option it reads in pieces, or with pauses, and prints each call first: docs/FORMATS.md, section 8.
 #![tactic(auto)]
 
-mod lines;
-mod plans;
-mod reading;
 mod report;
 
-use plans::Plan;
+use readings::Plan;
 use report::make_report;
 use std::io::{Read, Write};
 use std::{env, io};

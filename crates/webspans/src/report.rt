@@ -3,12 +3,10 @@ ghost use Rattle.std.specs.Prelude.{◌≡◌, ◌++◌, string_bytes, IfOk, OnO
 ghost use Rattle.written.specs.Listing.{event_lines};
 ghost use Rattle.webspans.specs.Report.{call_lines, total, steps_line, Printed};
 
-use crate::lines::{Answered, Steps};
-use crate::plans::Plan;
-use crate::reading::read_through;
 use machine::Event;
 use punctuation::range_lists::house_set;
 use reader::Reader;
+use readings::{Answered, Plan, Steps, read_through};
 use std::alloc::{AllocError, Global};
 use std::fmt::Write;
 use text::notes::check_length;

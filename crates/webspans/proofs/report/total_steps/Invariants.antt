@@ -1,5 +1,5 @@
 use Rattle.std.proofs.Common.{◌≡◌, ◌+◌, ◌-◌, ◌^◌, ◌≤◌, min, drop}
-use Rattle.webspans.specs.Readings.{steps_made}
+use Rattle.readings.specs.Readings.{steps_made}
 use Rattle.webspans.specs.Report.{total}
 use Rattle.webspans.proofs.report.total_steps.Given as goal
 

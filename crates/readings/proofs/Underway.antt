@@ -26,9 +26,9 @@ use Rattle.calls.specs.declared.phases.Phase.TheVariants.{Loaded, Ending, Ended}
 use Rattle.reader.specs.View.{meaning_of, view}
 use Rattle.punctuation.specs.declared.sets.PunctuationSet.{Ghosts}
 use Rattle.reader.specs.declared.reader.Reader.{Reader}
-use Rattle.webspans.specs.declared.lines.Answered.{Answered}
-use Rattle.webspans.specs.declared.plans.Plan.{Plan}
-use Rattle.webspans.specs.Readings.{called, next_target, ran_of, then_target, calls_from, first_calls, AllCalls, Accepts, steps_made, TakesSteps, ReadThrough}
+use Rattle.readings.specs.declared.lines.Answered.{Answered}
+use Rattle.readings.specs.declared.plans.Plan.{Plan}
+use Rattle.readings.specs.Readings.{called, next_target, ran_of, then_target, calls_from, first_calls, AllCalls, Accepts, steps_made, TakesSteps, ReadThrough}
 
 -- ---- steps
 
@@ -134,6 +134,7 @@ Before plan s calls u m = (n : ℕ) → first_calls plan s (length calls + n) �
 pub record Underway {g : Ghosts RangeList} (plan : Plan) (s : List ℕ) (calls : List Answered) (u : Until) (r : Reader RangeList g) : Type 0 where
   pub before : Before plan s calls u (view r)
   pub means : meaning_of r ≡ house
+  pub unlinked : (view r).links ≡ []
   pub accepts : Accepts u (view r)
   pub sound : Sound s (view r).machine
   pub leads : LeadsTo s (steps_made calls) (view r).machine
@@ -152,12 +153,17 @@ pub begins : {g : Ghosts RangeList} (plan : Plan) (s : List ℕ) (calls : List A
 begins plan s calls r n none is means e = record {
   before = subst (Before plan s calls (Mark n)) (sym e) (begins-before plan s calls n none is);
   means = means;
+  unlinked = ap (λ (m : Model). m.links) e;
   accepts = subst (Accepts (Mark n)) (sym e) (refl, omega arith, omega (arith, is));
   sound = subst (λ (m : Model). Sound s m.machine) (sym e) (sound_beginning s);
   leads = subst (λ (m : Model). LeadsTo s (steps_made calls) m.machine) (sym e) (subst (λ n. LeadsTo s n (beginning s)) (sym (ap steps_made none)) (leads-begin s));
 }
 
 -- ---- what a call leaves
+
+links-stay : (u : Until) (o : Outcome) (m : Model) → (moved u o m).links ≡ m.links
+links-stay (Mark to) o m = refl
+links-stay End o m = refl
 
 machine-paused : (u : Until) (o : Outcome) (m : Model) → o.done ≡ false → (moved u o m).machine ≡ o.after
 machine-paused (Mark to) o m d = refl
@@ -250,6 +256,9 @@ module _ {g : Ghosts RangeList} (plan : Plan) (s : List ℕ) (calls : List Answe
   after-sound : Sound s o.after
   after-sound = run_sound s house u a m.machine (settled_sound s h.sound)
 
+  still-unlinked : (view r').links ≡ []
+  still-unlinked = ap (λ (x : Model). x.links) view-is ∙ links-stay u o m ∙ h.unlinked
+
   same-note : o.after.note ≡ m.machine.note
   same-note = (sound_lawful after-sound).note ∙ sym (sound_lawful h.sound).note
 
@@ -282,6 +291,7 @@ module _ {g : Ghosts RangeList} (plan : Plan) (s : List ℕ) (calls : List Answe
       record {
         before = before-on next follows;
         means = means';
+        unlinked = still-unlinked;
         accepts = subst (Accepts next) (sym view-is) accepts;
         sound = subst (Sound s) (sym machine-is) after-sound;
         leads = subst (LeadsTo s (steps_made calls')) (sym machine-is) after-leads;
@@ -334,6 +344,13 @@ module _ {g : Ghosts RangeList} (plan : Plan) (s : List ℕ) (calls : List Answe
       let made : steps_made calls' ≡ steps_made calls + (outcome End a m).steps = made-is ∙ ap (λ (x : Outcome). steps_made calls + x.steps) same in
       record {
         made = all-calls (cond-true ran.done _ _ p ∙ none);
+        ended =
+            ap (λ (x : Model). x.phase) view-is ∙ ap (λ v. (moved v (outcome v a m) m).phase) last
+            ∙ cond-true (outcome End a m).done Ended Ending d;
+        note =
+            ap (λ (x : Model). x.machine.note) view-is ∙ ap (λ v. (moved v o m).machine.note) last
+            ∙ (sound_lawful after-sound).note;
+        unlinked = still-unlinked;
         events =
             ap (λ (x : Model). x.machine.events) view-is ∙ ap (λ v. (moved v (outcome v a m) m).machine.events) last
             ∙ cond-true (outcome End a m).done (joined (outcome End a m).after.events) (outcome End a m).after.events d

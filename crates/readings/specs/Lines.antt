@@ -3,7 +3,7 @@
 use Rattle.std.specs.Prelude.{ℕ, Bool, cond, List, ◌++◌, codes, decimal, ◌==◌}
 use Rattle.machine.specs.declared.cursors.Until.{Until}
 use Rattle.machine.specs.declared.cursors.Until.TheVariants.{Mark, End}
-use Rattle.webspans.specs.declared.lines.Answered.{Answered}
+use Rattle.readings.specs.declared.lines.Answered.{Answered}
 
 abbrev pub step_noun : ℕ → List ℕ
 step_noun n = cond (n == 1) (codes "step") (codes "steps")

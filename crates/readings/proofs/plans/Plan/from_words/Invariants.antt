@@ -1,5 +1,5 @@
-use Rattle.webspans.specs.Plans.{AskedFor}
-use Rattle.webspans.proofs.plans.Plan.from_words.Given as goal
+use Rattle.readings.specs.Plans.{AskedFor}
+use Rattle.readings.proofs.plans.Plan.from_words.Given as goal
 
 abbrev pub invariant-loop-option : goal.invariant-loop-option
 invariant-loop-option l = AskedFor l.words l.option-index l.plan

@@ -1,9 +1,9 @@
 use Rattle.std.proofs.Common.{◌+◌, ◌-◌, length, vec_items}
 use Rattle.punctuation.specs.RangeLists.{house}
 use Rattle.findings.proofs.FindsLinks.{finds_links}
-use Rattle.webspans.specs.Readings.{steps_made}
-use Rattle.webspans.proofs.Underway.{Underway, targets_left}
-use Rattle.webspans.proofs.reading.read_through.Given as goal
+use Rattle.readings.specs.Readings.{steps_made}
+use Rattle.readings.proofs.Underway.{Underway, targets_left}
+use Rattle.readings.proofs.reading.read_through.Given as goal
 
 abbrev pub invariant-loop-calls : goal.invariant-loop-calls
 invariant-loop-calls l = Underway l.plan l.note (vec_items l.calls) l.until l.reader

@@ -1,6 +1,6 @@
 // What the lines of the report say, but for those of events.
 ghost use Rattle.std.specs.Prelude.{◌≡◌, Some};
-ghost use Rattle.webspans.specs.Lines.{step_noun, steps_shown, state_shown, answered_shown};
+ghost use Rattle.readings.specs.Lines.{step_noun, steps_shown, state_shown, answered_shown};
 
 use machine::{Ran, Until};
 use std::fmt;

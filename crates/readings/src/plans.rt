@@ -1,6 +1,6 @@
 // How a note is read: what the options ask for.
 ghost use Rattle.std.specs.Prelude.{IfNone, IfSome};
-ghost use Rattle.webspans.specs.Plans.{Understood, AllUnderstood, Changed, Asked};
+ghost use Rattle.readings.specs.Plans.{Understood, AllUnderstood, Changed, Asked};
 
 use std::num::{NonZeroU64, NonZeroUsize};
 
@@ -15,7 +15,7 @@ pub struct Plan {
 
 impl Plan {
     // One push and one end, each with an allowance that no note is known to use up.
-    const PLAIN: Plan = Plan {
+    pub const PLAIN: Plan = Plan {
         piece: NonZeroUsize::MAX,
         allowance: NonZeroU64::MAX,
         shows_calls: false,

@@ -5,7 +5,7 @@ use Rattle.std.specs.declared.alloc.Global.{Global}
 use Rattle.std.specs.Simd.{first_chunks}
 use Rattle.std.specs.NonZero.{non_zero_u64_get, non_zero_usize_get}
 use Rattle.std.specs.Str.Parse.{digits_value, without_leading_plus, IsNumeral}
-use Rattle.webspans.specs.declared.plans.Plan.{Plan}
+use Rattle.readings.specs.declared.plans.Plan.{Plan}
 
 -- one push and one end, as far as 64 bits go, and no lines of calls
 pub record Plain (plan : Plan) : Type 0 where

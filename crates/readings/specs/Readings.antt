@@ -12,9 +12,9 @@ use Rattle.machine.specs.Laws.{Part}
 use Rattle.findings.specs.Findings.{read}
 use Rattle.findings.specs.Pieces.{segment_events}
 use Rattle.calls.specs.Calls.{Model, loaded, is_empty, is_over, push, end, unread}
-use Rattle.calls.specs.declared.phases.Phase.TheVariants.{Loaded}
-use Rattle.webspans.specs.declared.lines.Answered.{Answered}
-use Rattle.webspans.specs.declared.plans.Plan.{Plan}
+use Rattle.calls.specs.declared.phases.Phase.TheVariants.{Loaded, Ended}
+use Rattle.readings.specs.declared.lines.Answered.{Answered}
+use Rattle.readings.specs.declared.plans.Plan.{Plan}
 
 -- a call to a mark is a push, one to the end an end
 abbrev pub called : Until → Model → ℕ → Model × Result Ran Fault
@@ -67,8 +67,11 @@ steps_made (c ∷ cs) = c.ran.steps + steps_made cs
 abbrev pub TakesSteps : List ℕ → ℕ → Type 0
 TakesSteps s n = (parts : List Part) (allowance : ℕ) → (read house s parts allowance).done ≡ true → (read house s parts allowance).steps ≡ n
 
--- the note was read to its end, by these calls
+-- the note was read to its end, by these calls, and no links are marked in it
 pub record ReadThrough (plan : Plan) (s : List ℕ) (calls : List Answered) (m : Model) : Type 0 where
   pub made : AllCalls plan s calls
+  pub ended : m.phase ≡ Ended
+  pub note : m.machine.note ≡ s
+  pub unlinked : m.links ≡ []
   pub events : m.machine.events ≡ segment_events s (segments house s)
   pub steps : TakesSteps s (steps_made calls)

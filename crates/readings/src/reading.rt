@@ -1,9 +1,9 @@
 // A note read by a plan.
-ghost use Rattle.std.specs.Prelude.{◌≡◌, ◌<◌, ◌≤◌, length, Ok, IfOk};
+ghost use Rattle.std.specs.Prelude.{◌≡◌, ◌<◌, ◌≤◌, length, Ok, IfOk, OnOk};
 ghost use Rattle.punctuation.specs.RangeLists.{house};
 ghost use Rattle.calls.specs.Calls.{new};
 ghost use Rattle.reader.specs.View.{meaning_of, view};
-ghost use Rattle.webspans.specs.Readings.{called, next_target, Accepts, ReadThrough};
+ghost use Rattle.readings.specs.Readings.{called, next_target, Accepts, ReadThrough};
 
 use crate::lines::Answered;
 use crate::plans::Plan;
@@ -24,7 +24,8 @@ pub fn read_through(
     requires new { view reader.old ≡ new }
     requires meaning { meaning_of reader.old ≡ house }
     requires short { length note.now ≤ 1024 }
-    ensures { IfOk result (λ calls. ReadThrough plan note.now calls.items (view reader.new)) }
+    ensures read { IfOk result (λ calls. ReadThrough plan note.now calls.items (view reader.new)) }
+    ensures meaning_stays { OnOk result (meaning_of reader.new ≡ house) }
 {
     reader.load(note).unwrap();
     let mut calls = Vec::new(heap);

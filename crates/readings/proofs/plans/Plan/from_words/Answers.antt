@@ -2,8 +2,8 @@ use Rattle.std.proofs.Common.{◌≡◌, ℕ, zero, suc, ◌*◌, ◌/◌, ◌<�
 use Rattle.std.specs.Simd.{first_chunks}
 use Rattle.std.specs.declared.alloc.Global.{Global}
 use Rattle.std.proofs.lemmas.List.{get_or-map, get_or_read_under, length-take-le}
-use Rattle.webspans.specs.Plans.{Understood, Changed, word, AskedFor}
-use Rattle.webspans.proofs.plans.Plan.from_words.Goals as goal
+use Rattle.readings.specs.Plans.{Understood, Changed, word, AskedFor}
+use Rattle.readings.proofs.plans.Plan.from_words.Goals as goal
 
 -- each pair has two words
 pair_length : {X : Type 0} (n k : ℕ) (xs : List X) → k < n → 2 * n ≤ length xs → length (get_or (first_chunks 2 n xs) k []) ≡ 2
