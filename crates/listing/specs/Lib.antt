@@ -1,0 +1,4 @@
+pub mod Forms
+pub mod Notes
+pub mod Output
+pub mod Stops
