@@ -1,22 +1,20 @@
 -- The laws of what is printed.
 -- Assumes nothing.
-use Rattle.std.proofs.Common.{◌≡◌, ℕ, ◌≤◌, false, List, [], ◌∷◌, length, refl, arith}
+use Rattle.std.proofs.Common.{ℕ, ◌≤◌, List, [], ◌∷◌, length, refl, arith}
 use Rattle.std.proofs.lemmas.Bool.{ltb-false}
-use Rattle.text.specs.Notes.{too_long}
 use Rattle.text.specs.declared.spans.Span.{Span}
 use Rattle.punctuation.specs.RangeLists.{house}
 use Rattle.marked.specs.Marks.{IsInTurn}
 use Rattle.marked.proofs.Copied.{only_marks}
 use Rattle.calls.proofs.NothingElse.{exactly_resolved}
 use Rattle.calls.proofs.Resolves.{resolved-lawful, resolved_read, resolved-resolved}
-use Rattle.written.specs.Spans.{IsResolved}
 use Rattle.written.proofs.LineEnds.{a_line_for_each_event}
 use Rattle.written.proofs.Resolved.{named}
 use Rattle.written.proofs.SavedLists.{read_back}
 use Rattle.listing.specs.declared.forms.Form.{Form}
 use Rattle.listing.specs.declared.forms.Form.TheVariants.{Listing, SavedList, MarkedCopy}
 use Rattle.listing.specs.Notes.{events_of, Claimed, TheOnlyEvents}
-use Rattle.listing.specs.Output.{addresses, FormTells, Told, Tells}
+use Rattle.listing.specs.Output.{addresses, FormTells, Tells}
 
 claimed : (s : List ℕ) → Claimed s (events_of s)
 claimed s = record { lawful = resolved-lawful house s [] refl; read = resolved_read house s [] refl; resolved = resolved-resolved house s [] refl }

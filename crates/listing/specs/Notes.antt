@@ -1,6 +1,6 @@
 -- A note that was read to its end and resolved, with no links marked.
 -- Assumes nothing.
-use Rattle.std.specs.Prelude.{◌≡◌, ℕ, Bool, true, false, List, []}
+use Rattle.std.specs.Prelude.{◌≡◌, ℕ, true, false, List, []}
 use Rattle.text.specs.declared.refusals.Fault.{Fault}
 use Rattle.text.specs.declared.refusals.Fault.TheVariants.{NoteTooLong}
 use Rattle.text.specs.Notes.{too_long}
