@@ -1,0 +1,29 @@
+// A dash behind `http://`: a web link goes on over it unless the set has it.
+use crate::forms::{Form, check_form, read};
+use punctuation::range_lists::{RangeList, house_set};
+use punctuation::sets::{Either, EmptySet, PunctuationSet};
+use reader::Reader;
+use std::process::Abort;
+use std::test::Fail;
+
+fn check_dash<S: PunctuationSet + Drop>(
+    rt: &(impl Abort + AllocGlobal),
+    set: S,
+    saved: &[u8],
+) -> Result<(), Fail> {
+    let mut reader = Reader::new(rt.alloc(), set)?;
+    // U+2014
+    read(&mut reader, b"http://\xE2\x80\x94")?;
+    reader.resolve()?;
+    check_form(rt, Form::SavedList, &reader, saved)
+}
+
+#[test]
+fn dash_in_a_set_and_in_none(rt: HostRuntime) -> Result<(), Fail> {
+    check_dash(&rt, EmptySet, &[1, 0, 10])?;
+    check_dash(&rt, house_set(), &[])?;
+    // U+2010 to U+2013
+    let beside = RangeList::new(&[0x2010, 0x2013]);
+    check_dash(&rt, Either(EmptySet, beside), &[1, 0, 10])?;
+    check_dash(&rt, Either(Either(beside, house_set()), EmptySet), &[])
+}
