@@ -1,16 +1,14 @@
 // What the program prints of a note.
 ghost use Rattle.std.specs.Prelude.{◌≡◌, ◌++◌, string_bytes, IfOk, OnOk};
-ghost use Rattle.written.specs.Listing.{event_lines};
 ghost use Rattle.webspans.specs.Report.{call_lines, total, steps_line, Printed};
 
-use machine::Event;
 use punctuation::range_lists::house_set;
 use reader::Reader;
 use readings::{Answered, Plan, Steps, read_through};
 use std::alloc::{AllocError, Global};
 use std::fmt::Write;
 use text::notes::check_length;
-use written::lines::Listed;
+use written::lines::write_lines;
 
 pub fn make_report(heap: Global, note: &[u8], plan: Plan) -> Result<String, AllocError>
     ensures { IfOk result (λ s. Printed plan note.now (string_bytes s)) }
@@ -24,7 +22,7 @@ pub fn make_report(heap: Global, note: &[u8], plan: Plan) -> Result<String, Allo
     if plan.shows_calls {
         list_calls(&mut report, &calls)?;
     }
-    list_events(&mut report, reader.events())?;
+    write_lines(&mut report, reader.events())?;
     list_steps(&mut report, &calls)?;
     Ok(report)
 }
@@ -34,16 +32,6 @@ fn list_calls(report: &mut String, calls: &[Answered]) -> Result<(), AllocError>
 {
     for call in calls {
         writeln!(report, "{call}")?;
-    }
-    Ok(())
-}
-
-fn list_events(report: &mut String, events: &[Event]) -> Result<(), AllocError>
-    ensures { OnOk result (string_bytes report.new ≡ string_bytes report.old ++ event_lines events.now) }
-{
-    for event in events {
-        let line = Listed(*event);
-        writeln!(report, "{line}")?;
     }
     Ok(())
 }

@@ -18,5 +18,5 @@ returns c =
     ] in
     reports c.args.plan c.args.note.now c.in_ok-calls.calls.items _ _ _ _ (not_long c.args.note.now _ c.in_default.ensures) c.in_ok-calls.ensures.read
     calls
-    (c.in_ok-list_events.ensures ∙ ap (λ es. string_bytes c.if-plan.report ++ event_lines es) c.events.ensures.events)
-    (c.in_ok-list_steps.ensures ∙ ap (λ es. string_bytes c.list_events.new.report ++ steps_line es) c.deref-2.ensures.value)
+    (c.in_ok-write_lines.ensures ∙ ap (λ es. string_bytes c.if-plan.report ++ event_lines es) c.events.ensures.events)
+    (c.in_ok-list_steps.ensures ∙ ap (λ es. string_bytes c.write_lines.new.text ++ steps_line es) c.deref-2.ensures.value)
