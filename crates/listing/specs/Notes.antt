@@ -22,16 +22,11 @@ pub record HoldsResolved (s : List ℕ) (m : Model) : Type 0 where
   pub note : m.machine.note ≡ s
   pub events : held m ≡ events_of s
 
--- what is claimed of the events of a note that was read to its end and resolved with no links marked: in the words of the rules
+-- what is claimed of the events of a note that was read to its end and resolved with no links marked
 pub record Claimed (s : List ℕ) (es : List Event) : Type 0 where
   pub lawful : LawfulEvents s es
   pub read : FullyRead house s es
   pub resolved : FullyResolved house s [] es
-
--- it holds of these events, and of no others
-pub record TheOnlyEvents (s : List ℕ) : Type 0 where
-  pub claimed : Claimed s (events_of s)
-  pub only : (es : List Event) → Claimed s es → es ≡ events_of s
 
 -- the refusal is that of a note that is too long, which this one is
 abbrev pub TooLong : List ℕ → Fault → Type 0

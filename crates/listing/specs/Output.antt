@@ -7,6 +7,7 @@ use Rattle.text.specs.Notes.{too_long}
 use Rattle.text.specs.Shown.{refusal_shown}
 use Rattle.text.specs.declared.spans.Span.{Span}
 use Rattle.punctuation.specs.RangeLists.{house}
+use Rattle.machine.specs.declared.events.Event.{Event}
 use Rattle.marked.specs.Marked.{marked_copy, OnlyMarks}
 use Rattle.written.specs.Listing.{newline, event_lines, ALineForEachEvent}
 use Rattle.written.specs.Named.{NamedByTheRules}
@@ -14,7 +15,7 @@ use Rattle.written.specs.SavedLists.{saved_list, read_list}
 use Rattle.written.specs.Spans.{written_spans}
 use Rattle.listing.specs.declared.forms.Form.{Form}
 use Rattle.listing.specs.declared.forms.Form.TheVariants.{Listing, SavedList, MarkedCopy}
-use Rattle.listing.specs.Notes.{events_of}
+use Rattle.listing.specs.Notes.{events_of, Claimed}
 
 abbrev pub refusal_line : Fault → List ℕ
 refusal_line fault = refusal_shown fault ++ newline
@@ -34,16 +35,15 @@ output form s = cond (too_long s) (refusal_line NoteTooLong) (form_of form s)
 
 -- ---- laws
 
--- the listing has a line for each event, the saved list reads back as the addresses, and without its marks the marked copy is the note
-abbrev pub FormTells : Form → List ℕ → Type 0
-FormTells Listing s = ALineForEachEvent (events_of s)
-FormTells SavedList s = read_list (form_of SavedList s) ≡ Some (addresses s)
-FormTells MarkedCopy s = OnlyMarks s (addresses s)
+-- a listing has a line for each event, a saved list reads back as the addresses, and without its marks the marked copy is the note
+abbrev pub FormLaw : Form → List ℕ → Type 0
+FormLaw Listing s = ALineForEachEvent (events_of s)
+FormLaw SavedList s = too_long s ≡ false → read_list (form_of SavedList s) ≡ Some (addresses s)
+FormLaw MarkedCopy s = OnlyMarks s (addresses s)
 
--- of a note that is not too long: the addresses are those that the rules name, and the form tells what it is to tell
-pub record Told (form : Form) (s : List ℕ) : Type 0 where
+-- what is claimed holds of the events and of no others, and the addresses are those that the rules name
+pub record Laws (form : Form) (s : List ℕ) : Type 0 where
+  pub claimed : Claimed s (events_of s)
+  pub only : (es : List Event) → Claimed s es → es ≡ events_of s
   pub named : NamedByTheRules house s [] (addresses s)
-  pub tells : FormTells form s
-
-abbrev pub Tells : Form → List ℕ → Type 0
-Tells form s = too_long s ≡ false → Told form s
+  pub form_law : FormLaw form s

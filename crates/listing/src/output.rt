@@ -2,8 +2,8 @@
 ghost use Rattle.std.specs.Prelude.{◌≡◌, IfOk, IfErr};
 ghost use Rattle.reader.specs.View.{view};
 ghost use Rattle.listing.specs.Forms.{written_as, bytes_needed};
-ghost use Rattle.listing.specs.Notes.{TooLong, TheOnlyEvents};
-ghost use Rattle.listing.specs.Output.{refusal_line, output, Tells};
+ghost use Rattle.listing.specs.Notes.{TooLong};
+ghost use Rattle.listing.specs.Output.{refusal_line, output, Laws};
 ghost use Rattle.listing.specs.Stops.{WhereRefused, Unresolved};
 
 use crate::forms::Form;
@@ -17,8 +17,7 @@ use text::Fault;
 // The form of the note, or the line of a refusal.
 pub fn make_output(heap: Global, note: &[u8], form: Form) -> Result<Vec<u8>, AllocError>
     ensures printed { IfOk result (λ v. v.items ≡ output form note.now) }
-    ensures the_only_events { TheOnlyEvents note.now }
-    ensures tells { Tells form note.now }
+    ensures laws { Laws form note.now }
 {
     match write_note(heap, note, form) {
         Ok(bytes) => Ok(bytes),

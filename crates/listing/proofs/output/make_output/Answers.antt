@@ -1,20 +1,11 @@
-use Rattle.listing.proofs.Laws.{the_only_events, tells}
+use Rattle.listing.proofs.Laws.{laws}
 use Rattle.listing.proofs.output.make_output.Goals as goal
 
-pub returns-in-Ok-clause-the_only_events : goal.returns-in-Ok-clause-the_only_events
-returns-in-Ok-clause-the_only_events c = the_only_events c.args.note.now
+pub returns-in-Ok-clause-laws : goal.returns-in-Ok-clause-laws
+returns-in-Ok-clause-laws c = laws c.args.form c.args.note.now
 
-pub returns-in-Ok-clause-tells : goal.returns-in-Ok-clause-tells
-returns-in-Ok-clause-tells c = tells c.args.form c.args.note.now
+pub returns-in-Err-Refused-clause-laws : goal.returns-in-Err-Refused-clause-laws
+returns-in-Err-Refused-clause-laws c = laws c.args.form c.args.note.now
 
-pub returns-in-Err-Refused-clause-the_only_events : goal.returns-in-Err-Refused-clause-the_only_events
-returns-in-Err-Refused-clause-the_only_events c = the_only_events c.args.note.now
-
-pub returns-in-Err-Refused-clause-tells : goal.returns-in-Err-Refused-clause-tells
-returns-in-Err-Refused-clause-tells c = tells c.args.form c.args.note.now
-
-pub returns-in-Err-OutOfMemory-clause-the_only_events : goal.returns-in-Err-OutOfMemory-clause-the_only_events
-returns-in-Err-OutOfMemory-clause-the_only_events c = the_only_events c.args.note.now
-
-pub returns-in-Err-OutOfMemory-clause-tells : goal.returns-in-Err-OutOfMemory-clause-tells
-returns-in-Err-OutOfMemory-clause-tells c = tells c.args.form c.args.note.now
+pub returns-in-Err-OutOfMemory-clause-laws : goal.returns-in-Err-OutOfMemory-clause-laws
+returns-in-Err-OutOfMemory-clause-laws c = laws c.args.form c.args.note.now
