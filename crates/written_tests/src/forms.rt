@@ -3,7 +3,6 @@ use edit_map::EditMap;
 use punctuation::sets::PunctuationSet;
 use reader::Reader;
 use std::process::Abort;
-use std::test::Fail;
 use text::Fault;
 use written::{listing_lines, marked_copy, saved_list};
 
@@ -48,32 +47,37 @@ pub(crate) fn read<S: PunctuationSet>(reader: &mut Reader<S>, note: &[u8]) -> Re
     Ok(())
 }
 
-// The form is `expected`: it is refused where a byte is missing, and where there is no room at all; it just fits, and in a
-// longer buffer the bytes past it stay.
+// What was answered: the number of a refusal and its place, or else 0 and how many bytes were written.
+pub(crate) fn numbers(answer: Result<usize, Fault>) -> (u8, usize) {
+    match answer {
+        Ok(count) => (0, count),
+        Err(fault) => (fault.number(), fault.place()),
+    }
+}
+
+// The form is `expected`. It is refused in every shorter buffer that is tried, which stays as it was.
 pub(crate) fn check_form<S: PunctuationSet>(
-    rt: &(impl Abort + AllocGlobal),
+    rt: &impl Abort,
+    map: &mut EditMap,
     form: Form,
     reader: &Reader<S>,
     expected: &[u8],
-) -> Result<(), Fail> {
-    let mut map = EditMap::new(rt.alloc())?;
+) {
     let mut out = [b'.'; ROOM];
     let needed = expected.len();
     assert!(rt; needed < ROOM);
     if needed > 0 {
-        let short = form.write(&mut map, reader, &mut out[..needed - 1]);
-        assert!(rt; short == Err(Fault::BufferTooShort(needed)));
-        let empty = form.write(&mut map, reader, &mut []);
-        assert!(rt; empty == Err(Fault::BufferTooShort(needed)));
-        assert!(rt; are_dots(&out));
+        for room in [0, needed - 1] {
+            let short = form.write(map, reader, &mut out[..room]);
+            assert!(rt; numbers(short) == (16, needed));
+            assert!(rt; are_dots(&out));
+        }
     }
-    let just = form.write(&mut map, reader, &mut out[..needed]);
-    assert!(rt; just == Ok(needed));
-    assert!(rt; out.starts_with(expected));
-    let mut longer = [b'.'; ROOM];
-    let written = form.write(&mut map, reader, &mut longer);
-    assert!(rt; written == Ok(needed));
-    assert!(rt; longer.starts_with(expected));
-    assert!(rt; are_dots(&longer[needed..]));
-    Ok(())
+    // It just fits, and in a longer buffer the bytes past it stay.
+    for room in [needed, ROOM] {
+        let written = form.write(map, reader, &mut out[..room]);
+        assert!(rt; numbers(written) == (0, needed));
+        assert!(rt; out.starts_with(expected) && are_dots(&out[needed..]));
+        out = [b'.'; ROOM];
+    }
 }

@@ -1,52 +1,54 @@
 // A reader that is not resolved: each form is refused with 12, and nothing is changed.
-use crate::forms::{FORMS, are_dots};
+use crate::forms::{FORMS, are_dots, numbers};
+use calls::Call;
 use edit_map::EditMap;
 use punctuation::range_lists::{RangeList, house_set};
 use reader::Reader;
 use std::process::Abort;
 use std::test::Fail;
-use text::Fault;
 
-fn check_refused(
-    rt: &impl Abort,
-    map: &mut EditMap,
-    reader: &Reader<RangeList<'static>>,
-) -> Result<(), Fail> {
-    let mut out = [b'.'; 400];
-    for form in FORMS {
-        let refused = form.write(map, reader, &mut out);
-        assert!(rt; refused == Err(Fault::NotResolved));
-        // Before 16.
-        let no_room = form.write(map, reader, &mut []);
-        assert!(rt; no_room == Err(Fault::NotResolved));
-    }
-    assert!(rt; are_dots(&out));
-    assert_eq!(rt; map.kept(), 4);
-    Ok(())
-}
+// The last call is accepted only because the end before it paused.
+const CALLS: [Call<'static>; 5] = [
+    Call::Clear,
+    Call::Load(b"h "),
+    Call::Push {
+        to: 2,
+        allowance: 99,
+    },
+    Call::End { allowance: 1 },
+    Call::End { allowance: 99 },
+];
 
 #[test]
 fn each_phase_before_resolved(rt: HostRuntime) -> Result<(), Fail> {
     let mut reader = Reader::new(rt.alloc(), house_set())?;
     let mut map = EditMap::new(rt.alloc())?;
-    map.add(&mut [0; 4], 1, 0, b"kept")?;
-    check_refused(&rt, &mut map, &reader)?;
-    reader.load(b"h ")?;
-    check_refused(&rt, &mut map, &reader)?;
-    reader.push(2, u64::MAX)?;
-    let ending = reader.end(1)?;
-    assert!(rt; !ending.done);
-    check_refused(&rt, &mut map, &reader)?;
-    let ended = reader.end(u64::MAX)?;
-    assert!(rt; ended.done);
-    check_refused(&rt, &mut map, &reader)?;
-    reader.resolve()?;
+    assert!(rt; map.add(&mut [0; 4], 1, 0, b"kept").is_ok());
+    for call in CALLS {
+        assert!(rt; reader.make(call).is_ok());
+        check_refused(&rt, &mut map, &reader);
+    }
+    assert!(rt; reader.resolve().is_ok());
+    check_accepted(&rt, &mut map, &reader);
+    Ok(())
+}
+
+fn check_refused(rt: &impl Abort, map: &mut EditMap, reader: &Reader<RangeList<'static>>) {
+    let mut out = [b'.'; 400];
     for form in FORMS {
-        let written = form.write(&mut map, &reader, &mut [b'.'; 400]);
-        assert!(rt; written.is_ok());
+        // 12 is tested before 16.
+        for room in [0, 400] {
+            let refused = form.write(map, reader, &mut out[..room]);
+            assert!(rt; numbers(refused) == (12, 0));
+        }
+    }
+    assert!(rt; are_dots(&out));
+    assert!(rt; map.kept() == 4);
+}
+
+fn check_accepted(rt: &impl Abort, map: &mut EditMap, reader: &Reader<RangeList<'static>>) {
+    for form in FORMS {
+        assert!(rt; form.write(map, reader, &mut [b'.'; 400]).is_ok());
     }
     assert!(rt; map.is_empty());
-    reader.clear();
-    map.add(&mut [0; 4], 1, 0, b"kept")?;
-    check_refused(&rt, &mut map, &reader)
 }
