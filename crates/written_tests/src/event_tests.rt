@@ -1,5 +1,5 @@
 // Events by their numbers.
-use crate::forms::read;
+use crate::forms::resolve;
 use machine::{EventKind, Name};
 use punctuation::range_lists::{RangeList, house_set};
 use reader::Reader;
@@ -10,7 +10,7 @@ use text::{Fault, SpanKind};
 fn events_below_the_count_and_above(rt: HostRuntime) -> Result<(), Fail> {
     let mut reader = Reader::new(rt.alloc(), house_set())?;
     assert!(rt; is_refused(&reader, 0));
-    assert!(rt; read(&mut reader, b"a www.b").is_ok());
+    assert!(rt; resolve(&mut reader, b"a www.b", &[]).is_ok());
     assert!(rt; reader.event_count() == 4);
     assert!(rt; is_exit_of_www(&reader, 3));
     assert!(rt; is_refused(&reader, 4) && is_refused(&reader, usize::MAX));

@@ -2,6 +2,7 @@
 use edit_map::EditMap;
 use punctuation::sets::PunctuationSet;
 use reader::Reader;
+use std::alloc::AllocError;
 use std::process::Abort;
 use text::Fault;
 use written::{listing_lines, marked_copy, saved_list};
@@ -38,13 +39,44 @@ pub(crate) fn are_dots(bytes: &[u8]) -> bool {
     bytes.iter().all(|b| *b == b'.')
 }
 
-// Reads another note to its end.
-pub(crate) fn read<S: PunctuationSet>(reader: &mut Reader<S>, note: &[u8]) -> Result<(), Fault> {
+// A note, the links marked in it, and a form of it.
+#[derive(Clone, Copy)]
+pub(crate) struct Row<'a> {
+    pub(crate) note: &'a [u8],
+    pub(crate) links: &'a [(usize, usize)],
+    pub(crate) form: Form,
+    pub(crate) written: &'a [u8],
+}
+
+// One reader has all the notes in turn.
+pub(crate) fn check_rows<S: PunctuationSet + Drop>(
+    rt: &(impl Abort + AllocGlobal),
+    set: S,
+    rows: &[Row<'_>],
+) -> Result<(), AllocError> {
+    let mut reader = Reader::new(rt.alloc(), set)?;
+    let mut map = EditMap::new(rt.alloc())?;
+    for row in rows {
+        assert!(rt; resolve(&mut reader, row.note, row.links).is_ok());
+        check_form(rt, &mut map, row.form, &reader, row.written);
+    }
+    Ok(())
+}
+
+// Reads another note, and resolves it with these links.
+pub(crate) fn resolve<S: PunctuationSet>(
+    reader: &mut Reader<S>,
+    note: &[u8],
+    links: &[(usize, usize)],
+) -> Result<(), Fault> {
     reader.clear();
     reader.load(note)?;
     reader.push(note.len(), u64::MAX)?;
     reader.end(u64::MAX)?;
-    Ok(())
+    for (first, last) in links {
+        reader.link(*first, *last)?;
+    }
+    reader.resolve()
 }
 
 // What was answered: the number of a refusal and its place, or else 0 and how many bytes were written.
