@@ -1,5 +1,6 @@
 // How many scripts there were.
-ghost use Rattle.std.specs.Prelude.{◌≡◌, ◌+◌, ◌++◌, cond, codes, decimal, Some};
+ghost use Rattle.std.specs.Prelude.{◌≡◌, Some};
+ghost use Rattle.worked_scripts.specs.Tallies.{counted, tally_shown};
 
 use std::fmt;
 
@@ -11,7 +12,9 @@ pub struct Tally {
 
 impl Tally {
     // One more script.
-    pub fn count(&mut self, as_written: bool) {
+    pub fn count(&mut self, as_written: bool)
+        ensures { self.new ≡ counted as_written self.old }
+    {
         self.scripts = self.scripts.saturating_add(1);
         if as_written {
             self.as_written = self.as_written.saturating_add(1);
@@ -20,7 +23,7 @@ impl Tally {
 }
 
 impl fmt::Display for Tally {
-    ghost output = { λ tally. Some (decimal tally.scripts ++ (codes " scripts, " ++ (decimal tally.as_written ++ codes " as written"))) };
+    ghost output = { λ tally. Some (tally_shown tally) };
 
     fn fmt<W: fmt::Write>(&self, f: &mut fmt::Formatter<W>) -> fmt::Result {
         let scripts = self.scripts;
