@@ -1,9 +1,16 @@
 -- How many bytes a character has, by what is read at its place.
 -- Assumes nothing.
-use Rattle.std.proofs.Common.{◌≡◌, ℕ, ◌+◌, ◌-◌, ◌<◌, ◌≤◌, Bool, true, false, cond, ltb, List, length, drop, Some, None, sym, refl, ap, ◌∙◌, arith, length-append, length-drop}
+use Rattle.std.proofs.Common.{◌≡◌, ℕ, ◌+◌, ◌-◌, ◌<◌, ◌≤◌, Bool, true, false, cond, eqb, ltb, List, length, drop, Some, None, sym, refl, ap, ◌∙◌, arith, length-append, length-drop}
 use lib.Utf8.{encode}
-use Rattle.std.proofs.lemmas.Bool.{ltb-true}
+use Rattle.std.proofs.lemmas.Bool.{cond-false, ltb-true, ne_eqb}
 use Rattle.characters.specs.Utf8.{character, character_at, EncodedAt}
+use Rattle.characters.specs.Widths.{replacement_width, width_of, character_width}
+
+pub replacement : (s : List ℕ) (i w : ℕ) → Some 65533 ≡ character_at s i → w ≡ replacement_width (drop i s) → w ≡ character_width s i
+replacement s i w e h = h ∙ ap (width_of (drop i s)) e
+
+pub written : (s : List ℕ) (i w c : ℕ) → Some c ≡ character_at s i → (c ≡ 65533 → ⊥) → w ≡ length (encode c) → w ≡ character_width s i
+written s i w c e ne h = h ∙ sym (cond-false (eqb c 65533) (replacement_width (drop i s)) (length (encode c)) (ne_eqb c 65533 ne)) ∙ ap (width_of (drop i s)) e
 
 -- what stands at the place ends within the bytes
 pub written_within : (s : List ℕ) (i c : ℕ) → EncodedAt s i c → i < length s → i + length (encode c) ≤ length s

@@ -167,6 +167,15 @@ four_read (a ∷ b ∷ d ∷ e ∷ rest) h = four_begins a b d e rest (four_fact
 none_of : (bs : List ℕ) → shaped one_byte bs ≡ false → shaped two_bytes bs ≡ false → shaped three_bytes bs ≡ false → shaped four_bytes bs ≡ false → 65533 ≡ character bs
 none_of bs h1 h2 h3 h4 = sym (cond-false _ _ _ h1 ∙ cond-false _ _ _ h2 ∙ cond-false _ _ _ h3 ∙ cond-false _ _ _ h4)
 
+pub none_of_two : (bs : List ℕ) → 2 ≤ length bs → length bs < 3 → shaped one_byte (get_or bs 0 0 ∷ []) ≡ false → shaped two_bytes (get_or bs 0 0 ∷ get_or bs 1 0 ∷ []) ≡ false → 65533 ≡ character bs
+none_of_two [] l u h1 h2 = absurd (omega arith)
+none_of_two (a ∷ []) l u h1 h2 = absurd (omega arith)
+none_of_two (a ∷ b ∷ []) l u h1 h2 =
+    let h3 : shaped three_bytes (a ∷ b ∷ []) ≡ false = grind (arith, nat_tests) in
+    let h4 : shaped four_bytes (a ∷ b ∷ []) ≡ false = grind (arith, nat_tests) in
+    none_of (a ∷ b ∷ []) h1 h2 h3 h4
+none_of_two (a ∷ b ∷ c ∷ r) l u h1 h2 = absurd (omega arith)
+
 pub none_of_three : (bs : List ℕ) → 3 ≤ length bs → length bs < 4 → shaped one_byte (get_or bs 0 0 ∷ []) ≡ false → shaped two_bytes (get_or bs 0 0 ∷ get_or bs 1 0 ∷ []) ≡ false → shaped three_bytes (get_or bs 0 0 ∷ get_or bs 1 0 ∷ get_or bs 2 0 ∷ []) ≡ false → 65533 ≡ character bs
 none_of_three [] l u h1 h2 h3 = absurd (omega arith)
 none_of_three (a ∷ []) l u h1 h2 h3 = absurd (omega arith)

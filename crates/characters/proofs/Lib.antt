@@ -1,3 +1,4 @@
 pub mod CharacterLists
 pub mod CharacterWidths
 pub mod Characters
+pub mod InRanges

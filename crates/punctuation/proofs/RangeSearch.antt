@@ -1,11 +1,22 @@
--- Lawful ranges ascend, and where a number lies among them.
+-- Lawful ranges ascend, so that a number is found among them by halves. And how the first unlawful one is looked for.
 -- Assumes nothing.
-use Rattle.std.proofs.Common.{◌≡◌, ℕ, zero, suc, ◌*◌, ◌<◌, ◌≤◌, min, true, false, not, List, length, sym, refl, subst, ⊎_elim, arith}
-use Rattle.std.proofs.lemmas.Bool.{or_left, or_right, or_from, not-false, cases_eq, cases_lt}
+use Rattle.std.proofs.Common.{◌≡◌, ℕ, zero, suc, ◌+◌, ◌-◌, ◌*◌, ◌<◌, ◌≤◌, min, Bool, true, false, not, List, length, sym, refl, ap, ◌∙◌, subst, ⊎_elim, add-one, arith}
+use Rattle.std.proofs.lemmas.Bool.{or_left, or_right, or_from, not-false, cases_eq, cases_lt, cond-true, cond-false}
 use Rattle.std.proofs.lemmas.Bool.Decides.{nat_tests}
-use Rattle.text.specs.Bytes.{within}
+use Rattle.text.specs.Bytes.{within, seek}
 use Rattle.punctuation.specs.RangeLists.{first_of, last_of, range_count, lawful, lawful_front, taken_up, in_first}
 use Rattle.text.proofs.Firsts.{seek-first}
+
+-- ---- the first of n places, looked for from i on
+
+module _ (p : ℕ → Bool) (n i : ℕ) where
+  pub seek-more : i < n → p i ≡ false → seek p (n - i) i ≡ seek p (n - (i + 1)) (i + 1)
+  seek-more lt h =
+      let e : n - i ≡ suc (n - (i + 1)) = omega arith in
+      ap (λ k. seek p k i) e ∙ cond-false (p i) _ _ h ∙ ap (seek p (n - (i + 1))) (sym (add-one i))
+
+  pub seek_here : i < n → p i ≡ true → seek p (n - i) i ≡ i
+  seek_here lt h = let e : n - i ≡ suc (n - (i + 1)) = omega arith in ap (λ k. seek p k i) e ∙ cond-true (p i) _ _ h
 
 -- ---- the ranges that are taken up
 
@@ -39,6 +50,24 @@ module _ (xs : List ℕ) where
         (λ same. subst (λ k. last_of xs k < first_of xs (suc j)) (sym same) step)
         (λ apart. omega (arith, ascending i j (omega arith) (omega arith), upright j (omega arith)))
         (cases_eq i j)
+
+    -- ---- one step of the search, from the range m in the middle
+
+    -- c lies below range m, and so below each range from m on
+    pub all_above : (c m : ℕ) → m < n → c < first_of xs m → (k : ℕ) → m ≤ k → k < n → c < first_of xs k
+    all_above c m lt below k from to =
+        ⊎_elim
+        (λ same. subst (λ j. c < first_of xs j) same below)
+        (λ apart. omega (arith, ascending m k (omega arith) to, upright m lt))
+        (cases_eq m k)
+
+    -- c lies above range m, and so above each range up to m
+    pub all_below : (c m : ℕ) → m < n → last_of xs m < c → (k : ℕ) → k < m + 1 → last_of xs k < c
+    all_below c m lt above k to =
+        ⊎_elim
+        (λ same. subst (λ j. last_of xs j < c) (sym same) above)
+        (λ apart. omega (arith, ascending k m (omega arith) lt, upright m lt))
+        (cases_eq k m)
 
   -- ---- what the search found
 

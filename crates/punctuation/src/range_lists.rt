@@ -5,7 +5,6 @@ ghost use Rattle.punctuation.specs.KindExamples.{HouseMembers, KindsTold};
 ghost use Rattle.punctuation.specs.HighScalars.{range_member_high};
 
 use crate::sets::PunctuationSet;
-use std::cmp::Ordering;
 use text::refusals::Fault;
 
 // The most numbers that the check accepts.
@@ -52,17 +51,22 @@ impl PunctuationSet for RangeList<'_> {
 
     fn contains(&mut self, c: char) -> bool {
         let code = u32::from(c);
-        self.ranges
-            .binary_search_by(|[first, last]| {
-                if code < *first {
-                    Ordering::Greater
-                } else if *last < code {
-                    Ordering::Less
-                } else {
-                    Ordering::Equal
-                }
-            })
-            .is_ok()
+        let ranges = self.ranges;
+        // By halves, since lawful ranges ascend. Unlike the library's search, this one ends at a hit.
+        let mut low = 0;
+        let mut high = ranges.len();
+        while low < high {
+            let middle = low + (high - low) / 2;
+            let [first, last] = &ranges[middle];
+            if code < *first {
+                high = middle;
+            } else if *last < code {
+                low = middle + 1;
+            } else {
+                return true;
+            }
+        }
+        false
     }
 }
 
