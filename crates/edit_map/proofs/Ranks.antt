@@ -193,6 +193,10 @@ pub here_within : {p : ℕ} {es : List Entry} {i : ℕ} {r : Entry} → Here p e
 here_within (here is) = omega arith
 here_within (past lt w) = let h = here_within w in omega arith
 
+pub here_below : {p : ℕ} {es : List Entry} {i : ℕ} {r : Entry} → Here p es i r → i < length es
+here_below (here is) = omega arith
+here_below (past lt w) = let h = here_below w in omega arith
+
 pub gone_within : {p : ℕ} {es : List Entry} {i : ℕ} → Gone p es i → total (take i es) ≤ total es
 gone_within {p} {es} {i} w = total-take es i
 
@@ -204,3 +208,8 @@ pub total_inserted : {p : ℕ} {es : List Entry} {i : ℕ} (n k : ℕ) → Gone 
 total_inserted n k end = omega arith
 total_inserted n k (before lt) = omega arith
 total_inserted n k (beyond lt w) = let h = total_inserted n k w in omega arith
+
+pub length_grown : {p : ℕ} {es : List Entry} {i : ℕ} (e : Entry) → Gone p es i → length (insert es i e) ≡ length es + 1
+length_grown e end = omega arith
+length_grown e (before lt) = omega arith
+length_grown e (beyond lt w) = let h = length_grown e w in omega arith

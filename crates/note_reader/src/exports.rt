@@ -1,6 +1,7 @@
 // The exported functions.
 use crate::failures::Failure;
-use crate::reading::{Reading, put_kinds, read_all, read_in_parts};
+pub use crate::reading::Reading;
+use crate::reading::{put_kinds, read_all, read_in_parts};
 use std::alloc::Global;
 
 // How much was written, or the code of the refusal.

@@ -19,12 +19,14 @@ use tokenizer::event_table::{EVENTS_ROOM, EventTable};
 // Two events for each byte of a note: what data is split into. The events of links are fewer.
 pub const STORE_ROOM: usize = 2 * LONGEST_NOTE;
 
+// The events that edits add, and behind them the events that they make: one piece, for the reason told at `Buffer::new`.
+const BUFFER_ROOM: usize = STORE_ROOM + EVENTS_ROOM;
+
 // Kept: no ghost field here, since a call lends two of these fields at once.
 #[derive(Drop)]
 pub struct Resolver {
     map: EditMap,
-    store: Buffer<STORE_ROOM>,
-    spare: Buffer<EVENTS_ROOM>,
+    buffer: Buffer<BUFFER_ROOM>,
 }
 
 impl Resolver {
@@ -32,8 +34,7 @@ impl Resolver {
     pub fn new(heap: Global) -> Result<Resolver, AllocError> {
         Ok(Resolver {
             map: EditMap::new(heap)?,
-            store: Buffer::new(heap)?,
-            spare: Buffer::new(heap)?,
+            buffer: Buffer::new(heap)?,
         })
     }
 
@@ -48,12 +49,29 @@ impl Resolver {
         ensures answer { result ≡ Ok tt }
         ensures resolved { events.new.items.items ≡ resolved note.now links.now events.old.items.items }
     {
-        let Resolver { map, store, spare } = self;
-        let store = store.events.as_mut_slice();
-        let spare = spare.events.as_mut_slice();
+        let Resolver { map, buffer } = self;
+        buffer.fill();
         map.clear();
-        resolve_with(map, store, spare, note, links, events)
+        resolve_in(map, buffer.events.as_mut_slice(), note, links, events)
     }
+}
+
+// The events that edits add lie in the first part of the buffer, and the list is made in the rest.
+fn resolve_in(
+    map: &mut EditMap,
+    buffer: &mut [Event],
+    note: &[u8],
+    links: &[MarkedRun],
+    events: &mut EventTable,
+) -> Result<(), Fault>
+    requires as_new { AsNew map.old }
+    requires room { length buffer.old ≡ BUFFER_ROOM }
+    requires resolvable { Resolvable note.now links.now events.old.items.items }
+    ensures answer { result ≡ Ok tt }
+    ensures resolved { events.new.items.items ≡ resolved note.now links.now events.old.items.items }
+{
+    let (store, spare) = buffer.split_at_mut(STORE_ROOM);
+    resolve_with(map, store, spare, note, links, events)
 }
 
 // Two passes over the events, each a batch of edits.

@@ -68,6 +68,11 @@ other_kind Whitespace e = absurd (true≢false (sym e))
 other_kind Punctuation e = refl
 other_kind Other e = refl
 
+white_other : (k : CharacterKind) → is_white k ≡ true → is_other k ≡ false
+white_other Whitespace e = refl
+white_other Punctuation e = absurd (true≢false (sym e))
+white_other Other e = absurd (true≢false (sym e))
+
 module _ (member : ℕ → Bool) (s : List ℕ) (i : ℕ) where
   pub end-is_white : length s ≤ i → white_at member s i ≡ true
   end-is_white le = ap (λ o. is_white (kind_or_end member o)) (cond-false (ltb i (length s)) _ _ (le-ltb i (length s) le))
@@ -93,6 +98,9 @@ module _ (member : ℕ → Bool) (s : List ℕ) (i : ℕ) where
 
   pub other_not_white : other_at member s i ≡ true → white_at member s i ≡ false
   other_not_white e = other_kind (kind_at member s i) e
+
+  pub white_not_other : white_at member s i ≡ true → other_at member s i ≡ false
+  white_not_other e = white_other (kind_at member s i) e
 
   pub joint_not_white : i < length s → joint (get_or s i 0) ≡ true → white_at member s i ≡ false
   joint_not_white lt e =

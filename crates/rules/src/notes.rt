@@ -18,7 +18,8 @@ pub fn find_note_addresses(note: &[u8], out: &mut [Span]) -> Result<usize, Fault
     ensures each_is_an_address { EachIsAnAddress note.now (note_addresses note.now) }
 {
     check_length(note)?;
-    write_front(NoteAddresses::starting_at(note, 0), out)
+    let count = write_front(NoteAddresses::starting_at(note, 0), out)?;
+    Ok(count)
 }
 
 // The addresses of a note, line by line.

@@ -24,6 +24,12 @@ module _ (member : ℕ → Bool) (until : Until) where
       ∙ ap (λ (n : ℕ). outcome (prepared until m) n true) (sym (add-zero steps))
       ∙ ap (plus steps) (sym (still m k (subst (λ (q : Machine). due until q ≡ None) e d)))
 
+  -- the allowance is made and a state call is due
+  pub pauses : (m p : Machine) (n : StateName) (steps : ℕ) → p ≡ prepared until m → due until p ≡ Some n → outcome p steps (none_due (due until p)) ≡ plus steps (run member until 0 m)
+  pauses m p n steps e d =
+      ap (λ (q : Machine). outcome q steps (none_due (due until q))) e
+      ∙ ap (λ (k : ℕ). outcome (prepared until m) k (none_due (due until (prepared until m)))) (sym (add-zero steps))
+
   goes_on : (m : Machine) (n : StateName) (k : ℕ) → due until (prepared until m) ≡ Some n → run member until (suc k) m ≡ plus 1 (run member until k (call member n (shown (prepared until m))))
   goes_on m n k d =
       ap (λ (o : Option StateName). choose o (stopped (prepared until m) true) (λ n. plus 1 (run member until k (call member n (shown (prepared until m)))))) d
