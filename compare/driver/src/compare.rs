@@ -374,6 +374,15 @@ fn compared(note: &[u8], set: &Set, calls: &Calls, chance: &mut Chance, tally: &
     let ended = Ended { note, cut, published_cut };
     let unmarked = compared_resolved(&ended, &mut reader, vec![], &mut tally.unmarked)?;
     let marked = compared_resolved(&ended, &mut reader, links, &mut tally.marked)?;
+    // A place shows only where its test says that it is met.
+    for Resolved { links, way, .. } in [&unmarked, &marked] {
+        same!(
+            (way.open_parenthesis && !open_met, way.dot_first && !dot_met, way.resource && !resource_met),
+            (false, false, false),
+            "resolved with links {:?}: places that show without being met",
+            links
+        );
+    }
 
     // The proved reader: ours on every note, so the published answer wherever no named difference is met.
     if library::LINKED {
