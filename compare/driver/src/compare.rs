@@ -377,7 +377,11 @@ fn compared(note: &[u8], set: &Set, calls: &Calls, chance: &mut Chance, tally: &
     // A place shows only where its test says that it is met.
     for Resolved { links, way, .. } in [&unmarked, &marked] {
         same!(
-            (way.open_parenthesis && !open_met, way.dot_first && !dot_met, way.resource && !resource_met),
+            (
+                way.open_parenthesis && !open_met,
+                way.dot_first && !dot_met,
+                way.resource && !resource_met
+            ),
             (false, false, false),
             "resolved with links {:?}: places that show without being met",
             links
