@@ -3,9 +3,10 @@ ghost use Rattle.std.specs.Prelude.{◌≡◌, ◌≤◌, length, Ok};
 ghost use Rattle.edit_map.specs.View.{AsNew};
 ghost use Rattle.calls.specs.Links.{resolved};
 ghost use Rattle.resolving.specs.Ended.{Resolvable};
+ghost use Rattle.resolving.specs.Memory.{events_ready};
 
 use crate::batches::make;
-use crate::buffer::Buffer;
+use crate::buffer::{Memory, ReservedBuffer};
 use crate::links::put_links;
 use crate::mail::cut_mail;
 use calls::MarkedRun;
@@ -19,14 +20,14 @@ use tokenizer::event_table::{EVENTS_ROOM, EventTable};
 // Two events for each byte of a note: what data is split into. The events of links are fewer.
 pub const STORE_ROOM: usize = 2 * LONGEST_NOTE;
 
-// The events that edits add, and behind them the events that they make: one piece, for the reason told at `Buffer::new`.
+// The events that edits add, and behind them the events that they make: one piece, for the reason told at `ReservedBuffer::new`.
 const BUFFER_ROOM: usize = STORE_ROOM + EVENTS_ROOM;
 
 // Kept: no ghost field here, since a call lends two of these fields at once.
 #[derive(Drop)]
 pub struct Resolver {
     map: EditMap,
-    buffer: Buffer<BUFFER_ROOM>,
+    memory: Memory<BUFFER_ROOM>,
 }
 
 impl Resolver {
@@ -34,7 +35,9 @@ impl Resolver {
     pub fn new(heap: Global) -> Result<Resolver, AllocError> {
         Ok(Resolver {
             map: EditMap::new(heap)?,
-            buffer: Buffer::new(heap)?,
+            memory: Memory {
+                buffer: ReservedBuffer::new(heap)?,
+            },
         })
     }
 
@@ -48,8 +51,12 @@ impl Resolver {
         requires { Resolvable note.now links.now events.old.items.items }
         ensures answer { result ≡ Ok tt }
         ensures resolved { events.new.items.items ≡ resolved note.now links.now events.old.items.items }
+        ensures full { events_ready self.new ≡ BUFFER_ROOM }
     {
-        let Resolver { map, buffer } = self;
+        let Resolver {
+            map,
+            memory: Memory { buffer },
+        } = self;
         buffer.fill();
         map.clear();
         resolve_in(map, buffer.events.as_mut_slice(), note, links, events)

@@ -1,6 +1,6 @@
 use Rattle.std.proofs.Common.{◌≡◌, ◌-◌, ◌≤◌, ◌++◌, replicate, vec_len}
 use Rattle.resolving.specs.declared.buffer.TheConstants.{BLANK}
-use Rattle.resolving.proofs.buffer.Buffer.fill.Given as goal
+use Rattle.resolving.proofs.buffer.ReservedBuffer.fill.Given as goal
 
 abbrev pub invariant-loop : goal.invariant-loop
 invariant-loop g l =
