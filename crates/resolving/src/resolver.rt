@@ -1,5 +1,5 @@
 // Resolving, with room that is reserved once.
-ghost use Rattle.std.specs.Prelude.{◌≡◌, ◌≤◌, length, Ok};
+ghost use Rattle.std.specs.Prelude.{◌≡◌, ◌≤◌, length, Ok, IfOk};
 ghost use Rattle.edit_map.specs.View.{AsNew};
 ghost use Rattle.calls.specs.Links.{resolved};
 ghost use Rattle.resolving.specs.Ended.{Resolvable};
@@ -32,7 +32,9 @@ pub struct Resolver {
 
 impl Resolver {
     // Reserves all memory that it will ever have: no other call allocates.
-    pub fn new(heap: Global) -> Result<Resolver, AllocError> {
+    pub fn new(heap: Global) -> Result<Resolver, AllocError>
+        ensures unwritten { IfOk result (λ resolver. events_ready resolver ≡ 0) }
+    {
         Ok(Resolver {
             map: EditMap::new(heap)?,
             memory: Memory {
